@@ -1,0 +1,6 @@
+pub mod ConfigLimits
+pub mod Configs
+pub mod Places
+pub mod Quorums
+pub mod StampPlaces
+pub mod Stamps

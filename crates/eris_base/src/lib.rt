@@ -1,0 +1,19 @@
+//! The ground that every other crate stands on: names of nodes, a config in its limits, stamps whose
+//! shards ascend, rows of items, copies, and sources and sinks of bytes whose faults are counted.
+#![tactic(auto)]
+
+mod config;
+mod copying;
+mod ids;
+mod no_memory;
+mod quorum;
+mod row;
+mod stamp;
+
+pub use config::{Config, ConfigFault};
+pub use copying::{Dup, Same};
+pub use ids::{ClientId, Epoch, Node, Phase, Place, ReplicaId, ShardId, TxnId, View};
+pub use no_memory::NoMemory;
+pub use quorum::{is_quorum, learner};
+pub use row::Row;
+pub use stamp::Stamp;

@@ -1,0 +1,25 @@
+//! What a store is asked and what it answers: keys, operations, plans, the bodies that packets carry,
+//! answers, and the events of a history.
+#![tactic(auto)]
+
+mod answer;
+mod body;
+mod history;
+mod key;
+mod lock;
+mod name;
+mod op;
+mod packet;
+mod plan;
+mod txn;
+
+pub use answer::Answer;
+pub use body::Body;
+pub use history::HistoryEvent;
+pub use key::Key;
+pub use lock::{Lock, Mode};
+pub use name::Name;
+pub use op::{Op, OpAnswer};
+pub use packet::Packet;
+pub use plan::{Guard, How, Plan, Setting, Write};
+pub use txn::Txn;

@@ -1,0 +1,31 @@
+use crate::key::Key;
+
+/// An operation on the value of one key.
+#[derive(Clone, Copy, Debug, PartialEq, Eq)]
+pub enum Op {
+    /// Reads the value.
+    Get(Key),
+    /// Sets the value.
+    Put(Key, u64),
+    /// Takes the value away.
+    Del(Key),
+    /// Adds to the value modulo 2^64; an absent value counts as 0.
+    Add(Key, u64),
+    /// Sets the value to the second number where it equals the first.
+    Cas(Key, u64, u64),
+}
+
+/// What an operation answers.
+#[derive(Clone, Copy, Debug, PartialEq, Eq)]
+pub enum OpAnswer {
+    /// The value read, or the new sum.
+    Value(u64),
+    /// There is no value.
+    Absent,
+    /// The value was set.
+    Done,
+    /// There was a value to take away, or it equaled the one expected.
+    Yes,
+    /// There was none, or it didn't.
+    No,
+}
