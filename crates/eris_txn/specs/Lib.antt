@@ -1,5 +1,6 @@
 pub mod Bodies
 pub mod BodyFaults
+pub mod KeyValues
 pub mod Keys
 pub mod NameCells
 pub mod Names

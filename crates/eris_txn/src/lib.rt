@@ -13,6 +13,7 @@ mod operation;
 mod packet;
 mod plan;
 mod txn;
+mod values;
 
 pub use answer::Answer;
 pub use body::{Body, BodyFault, participants};
@@ -25,3 +26,4 @@ pub use operation::apply_op;
 pub use packet::Packet;
 pub use plan::{Guard, How, Plan, PlanFault, Setting, Write};
 pub use txn::Txn;
+pub use values::KeyValues;

@@ -1,0 +1,6 @@
+mod ThinQueue
+mod ThinJobs
+mod ThinCourse
+mod ThinLines
+mod ThinHistory
+mod ThinLaw

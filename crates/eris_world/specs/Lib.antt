@@ -1,0 +1,3 @@
+pub mod ThinNodes
+pub mod ThinWorld
+pub mod ThinOrder
