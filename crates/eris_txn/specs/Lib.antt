@@ -1,6 +1,4 @@
 pub mod Keys
-pub mod Names
 pub mod NameCells
+pub mod Names
 pub mod Operations
-pub mod PlanValues
-pub mod Plans
