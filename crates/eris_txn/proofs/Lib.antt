@@ -1,1 +1,3 @@
+pub mod KeyLaws
 pub mod NameParts
+pub mod PlanLaws

@@ -1,5 +1,5 @@
 -- The cells that a name is written into.
-use Rattle.std.proofs.Common.{◌≡◌, ℕ, ◌<◌, ◌≤◌, ◌&&◌, true, List, length, take, drop, replicate, ◌++◌, IsTrue, nat_lt, nat_le, sym, ◌∙◌, ap, arith, length-append, length-drop, subst}
+use Rattle.std.proofs.Common.{◌≡◌, ℕ, ◌<◌, ◌≤◌, ◌&&◌, true, List, length, drop, replicate, ◌++◌, IsTrue, nat_lt, nat_le, sym, ◌∙◌, arith, length-append, length-drop, subst}
 use Rattle.std.proofs.Math.Seq.{take-append_seam, drop-append_seam}
 use Rattle.std.proofs.lemmas.List.{drop-replicate}
 use Rattle.std.proofs.lemmas.Bool.{and_from, lt-ltb, le-leb}

@@ -1,3 +1,5 @@
+ghost use Rattle.std.specs.Prelude.{◌≡◌};
+
 use crate::name::Name;
 use eris_base::ShardId;
 
@@ -6,4 +8,15 @@ use eris_base::ShardId;
 pub struct Key {
     pub shard: ShardId,
     pub name: Name,
+}
+
+impl Key {
+    ghost use Rattle.eris_txn.specs.Keys.{same_key};
+
+    /// Whether the two keys are equal. It takes no memory.
+    pub fn is_same(&self, other: &Key) -> bool
+        ensures { result ≡ same_key self.now other.now }
+    {
+        self == other
+    }
 }

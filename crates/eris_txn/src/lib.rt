@@ -15,7 +15,7 @@ mod plan;
 mod txn;
 
 pub use answer::Answer;
-pub use body::Body;
+pub use body::{Body, BodyFault, participants};
 pub use history::HistoryEvent;
 pub use key::Key;
 pub use lock::{Lock, Mode};
@@ -23,5 +23,5 @@ pub use name::Name;
 pub use op::{Op, OpAnswer};
 pub use operation::apply_op;
 pub use packet::Packet;
-pub use plan::{Guard, How, Plan, Setting, Write};
+pub use plan::{Guard, How, Plan, PlanFault, Setting, Write};
 pub use txn::Txn;

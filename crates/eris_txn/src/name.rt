@@ -5,7 +5,7 @@ ghost use Rattle.std.specs.Cmp.Lexicographic.{slice_cmp, texts_po, texts_ties};
 ghost use Rattle.std.specs.Ordering.{nat_cmp};
 ghost use Rattle.std.proofs.lemmas.Cmp.{nat_list_cmp_total, nat_list_eq_equiv};
 ghost use lib.Pointwise.{pointwise};
-ghost use Rattle.eris_txn.specs.Names.{is_name, is_name_byte as name_byte};
+ghost use Rattle.eris_txn.specs.Names.{is_name, is_name_byte};
 
 use std::cmp::Ordering;
 use std::marker::Model;
@@ -97,13 +97,13 @@ impl Ord for Name {
 }
 
 fn are_name_bytes(bytes: &[u8]) -> bool
-    ensures { result ≡ list_all name_byte bytes.now }
+    ensures { result ≡ list_all is_name_byte bytes.now }
 {
     bytes.iter().all(|byte| is_name_byte(*byte))
 }
 
 fn is_name_byte(byte: u8) -> bool
-    ensures { result ≡ name_byte byte }
+    ensures { result ≡ is_name_byte byte }
 {
     matches!(byte, b'a'..=b'z' | b'0'..=b'9' | b'_')
 }

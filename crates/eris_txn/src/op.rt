@@ -1,3 +1,5 @@
+ghost use Rattle.std.specs.Prelude.{◌≡◌};
+
 use crate::key::Key;
 
 /// An operation on the value of one key.
@@ -28,4 +30,18 @@ pub enum OpAnswer {
     Yes,
     /// There was none, or it didn't.
     No,
+}
+
+impl Op {
+    ghost use Rattle.eris_txn.specs.Operations.{key_of};
+
+    /// The key whose value the operation reads or changes. It takes no memory.
+    pub fn key(&self) -> &Key
+        ensures { result.now ≡ key_of self.now }
+    {
+        match self {
+            Op::Get(key) | Op::Put(key, _) | Op::Del(key) | Op::Add(key, _) | Op::Cas(key, _, _) =>
+                key,
+        }
+    }
 }
