@@ -1,0 +1,3 @@
+pub mod DecimalLaws
+mod DigitLemmas
+mod ReadLemmas
