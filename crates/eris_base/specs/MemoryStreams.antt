@@ -1,4 +1,4 @@
-use Rattle.std.specs.Prelude.{ℕ, ◌+◌, ◌-◌, ◌^◌, min, Bool, List, ◌==◌}
+use Rattle.std.specs.Prelude.{ℕ, Bool, List, ◌==◌}
 use Rattle.std.specs.List.{list_any}
 
 -- a source over bytes in memory: what is left of them, at most how many it gives at a call, the numbers of the calls that
@@ -24,10 +24,6 @@ pub record MemSinkValue : Type 0 where
 pub record SureSinkValue : Type 0 where
   pub taken : List ℕ
   pub spare : ℕ
-
--- a count one higher, which stands still at its type's end
-abbrev pub one_more : ℕ → ℕ
-one_more count = min (count + 1) (2 ^ 64 - 1)
 
 -- the number is one of these
 abbrev pub is_listed : List ℕ → ℕ → Bool

@@ -11,8 +11,11 @@ mod pieces;
 mod quorum;
 mod row;
 mod stamp;
+mod standard;
 mod stream;
 mod sure;
+#[cfg(test)]
+mod tests;
 mod transfer;
 
 pub use config::{Config, ConfigFault};
@@ -23,6 +26,7 @@ pub use no_memory::NoMemory;
 pub use quorum::{is_quorum, learner};
 pub use row::Row;
 pub use stamp::Stamp;
+pub use standard::{StdSink, StdSource};
 pub use stream::{Failed, Sink, Source};
 pub use sure::{SureSink, SureSource};
 pub use transfer::{ReadEnd, read_all, write_all};

@@ -1,8 +1,8 @@
 ghost use Rattle.std.specs.Prelude.{◌≡◌, ◌+◌, ◌<◌, ◌≤◌, [], ◌∷◌, Some, length, min, drop, not, is_ok, IfOk, OnOk, OnErr, MatchResult};
 ghost use Rattle.std.specs.Io.{ReadsAtMost};
 ghost use Rattle.std.specs.Io.KnownBytes.{ReadConsumes, WriteAppends};
-ghost use Rattle.eris_base.specs.Faults.{HasCause};
-ghost use Rattle.eris_base.specs.MemoryStreams.{one_more, is_listed};
+ghost use Rattle.eris_base.specs.Faults.{one_more, HasCause};
+ghost use Rattle.eris_base.specs.MemoryStreams.{is_listed};
 
 use crate::no_memory::NoMemory;
 use crate::pieces::{after, give};
