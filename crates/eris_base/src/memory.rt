@@ -1,0 +1,189 @@
+ghost use Rattle.std.specs.Prelude.{◌≡◌, ◌+◌, ◌<◌, ◌≤◌, [], ◌∷◌, Some, length, min, drop, not, is_ok, IfOk, OnOk, OnErr, MatchResult};
+ghost use Rattle.std.specs.Io.{ReadsAtMost};
+ghost use Rattle.std.specs.Io.KnownBytes.{ReadConsumes, WriteAppends};
+ghost use Rattle.eris_base.specs.Faults.{one_more, HasCause};
+ghost use Rattle.eris_base.specs.MemoryStreams.{is_listed};
+
+use crate::no_memory::NoMemory;
+use crate::pieces::{after, give};
+use crate::row::Row;
+use crate::stream::{Failed, Sink, Source};
+use std::alloc::Global;
+use std::marker::Model;
+
+/// A source over bytes in memory, which gives them in small pieces and fails at chosen calls.
+#[derive(Debug, Drop)]
+pub struct MemSource {
+    bytes: Row<u8>,
+    at: usize,
+    chunk: usize,
+    failing: Row<u32>,
+    calls: u64,
+    faults: u64,
+}
+
+impl Model for MemSource {
+    ghost use Rattle.std.specs.Prelude.{◌<◌, ◌≤◌, length, drop};
+    ghost use Rattle.eris_base.specs.MemoryStreams.{MemSourceValue};
+
+    ghost Value = { MemSourceValue };
+
+    ghost view = { λ s. record { left = drop s.at s.bytes; chunk = s.chunk; failing = s.failing; calls = s.calls; faults = s.faults } };
+
+    ghost invariant = { λ s. (s.at ≤ length s.bytes) × (0 < s.chunk) };
+}
+
+impl MemSource {
+    /// A source that gives at most `chunk` of the bytes at a call. The calls whose numbers, from 1,
+    /// stand in `failing` fail. It takes no memory.
+    pub fn new(bytes: Row<u8>, chunk: usize, failing: Row<u32>) -> MemSource
+        requires { 0 < chunk }
+        ensures exact { result ≡ record { left = bytes; chunk = chunk; failing = failing; calls = 0; faults = 0 } }
+        ensures left { ⟦<MemSource as Source>⟧.left result ≡ Some bytes }
+        ensures faults { ⟦<MemSource as Source>⟧.faults result ≡ 0 }
+    {
+        MemSource {
+            bytes,
+            at: 0,
+            chunk,
+            failing,
+            calls: 0,
+            faults: 0,
+        }
+    }
+
+    /// The bytes still to come.
+    pub fn left(&self) -> &[u8]
+        ensures { result.now ≡ self.now.left }
+    {
+        after(self.bytes.as_slice(), self.at)
+    }
+}
+
+impl Source for MemSource {
+    ghost left = { λ s. Some s.left };
+
+    ghost faults = { λ s. s.faults };
+
+    fn read(&mut self, buf: &mut [u8]) -> Result<usize, Failed>
+        ensures bound { ReadsAtMost result buf.new }
+        ensures bytes { ReadConsumes (Some self.old.left) (Some self.new.left) result buf.new }
+        ensures cause { HasCause self.old.faults self.new.faults result }
+
+        // The call fails exactly where its number is listed; else it gives as much as it may.
+        ensures failing { is_ok result ≡ not (is_listed self.old.failing (one_more self.old.calls)) }
+        ensures count { IfOk result (λ n. n ≡ min (min (length buf.new) self.old.chunk) (length self.old.left)) }
+        ensures ok { IfOk result (λ n. self.new
+            ≡ record self.old { left = drop n self.old.left; calls = one_more self.old.calls }) }
+        ensures err { OnErr result (self.new
+            ≡ record self.old { calls = one_more self.old.calls; faults = one_more self.old.faults }) }
+    {
+        self.calls = self.calls.saturating_add(1);
+        if lists(self.failing.as_slice(), self.calls) {
+            self.faults = self.faults.saturating_add(1);
+            return Err(Failed);
+        }
+        let count = give(after(self.bytes.as_slice(), self.at), buf, self.chunk);
+        self.at += count;
+        Ok(count)
+    }
+}
+
+/// A sink into memory, which takes bytes in small pieces and fails at chosen writes.
+#[derive(Debug, Drop)]
+pub struct MemSink {
+    bytes: Vec<u8>,
+    chunk: usize,
+    failing: Row<u32>,
+    calls: u64,
+    faults: u64,
+}
+
+impl Model for MemSink {
+    ghost use Rattle.std.specs.Prelude.{◌-◌, ◌<◌, vec_len, vec_capacity};
+    ghost use Rattle.eris_base.specs.MemoryStreams.{MemSinkValue};
+
+    ghost Value = { MemSinkValue };
+
+    ghost view = { λ s. record { taken = s.bytes.items; spare = vec_capacity s.bytes - vec_len s.bytes; chunk = s.chunk; failing = s.failing; calls = s.calls; faults = s.faults } };
+
+    ghost invariant = { λ s. 0 < s.chunk };
+}
+
+impl MemSink {
+    /// A sink that takes at most `chunk` bytes at a write. The writes whose numbers, from 1, stand in
+    /// `failing` fail. It takes no memory.
+    pub fn new(alloc: Global, chunk: usize, failing: Row<u32>) -> MemSink
+        requires { 0 < chunk }
+        ensures taken { ⟦<MemSink as Sink>⟧.taken result ≡ Some [] }
+        ensures faults { ⟦<MemSink as Sink>⟧.faults result ≡ 0 }
+        ensures chunk { result.chunk ≡ chunk }
+        ensures failing { result.failing ≡ failing }
+        ensures calls { result.calls ≡ 0 }
+    {
+        MemSink {
+            bytes: Vec::new(alloc),
+            chunk,
+            failing,
+            calls: 0,
+            faults: 0,
+        }
+    }
+
+    /// The bytes taken so far.
+    pub fn taken(&self) -> &[u8]
+        ensures { result.now ≡ self.now.taken }
+    {
+        self.bytes.as_slice()
+    }
+}
+
+impl Sink for MemSink {
+    ghost taken = { λ s. Some s.taken };
+
+    ghost faults = { λ s. s.faults };
+
+    ghost spare = { λ s. s.spare };
+
+    fn reserve(&mut self, more: usize) -> Result<(), NoMemory>
+        ensures room { OnOk result (more ≤ self.new.spare) }
+        ensures taken { Some self.new.taken ≡ Some self.old.taken }
+        ensures faults { self.new.faults ≡ self.old.faults }
+        ensures rest { self.new ≡ record self.old { spare = self.new.spare } }
+    {
+        self.bytes.reserve(more)?;
+        Ok(())
+    }
+
+    fn write(&mut self, bytes: &[u8]) -> Result<usize, Failed>
+        requires { length bytes.now ≤ self.old.spare }
+        ensures bound { IfOk result (λ n. n ≤ length bytes.now) }
+        ensures progress { IfOk result (λ n. 0 < length bytes.now → 0 < n) }
+        ensures bytes { WriteAppends (Some self.old.taken) (Some self.new.taken) result bytes.now }
+        ensures spare { MatchResult result (λ n. self.old.spare ≤ self.new.spare + n) (λ _. self.new.spare ≡ self.old.spare) }
+        ensures cause { HasCause self.old.faults self.new.faults result }
+
+        // The write fails exactly where its number is listed; else it takes as much as it may.
+        ensures failing { is_ok result ≡ not (is_listed self.old.failing (one_more self.old.calls)) }
+        ensures count { IfOk result (λ n. n ≡ min (length bytes.now) self.old.chunk) }
+        ensures ok { OnOk result (self.new
+            ≡ record self.old { taken = self.new.taken; spare = self.new.spare; calls = one_more self.old.calls }) }
+        ensures err { OnErr result (self.new
+            ≡ record self.old { calls = one_more self.old.calls; faults = one_more self.old.faults }) }
+    {
+        self.calls = self.calls.saturating_add(1);
+        if lists(self.failing.as_slice(), self.calls) {
+            self.faults = self.faults.saturating_add(1);
+            return Err(Failed);
+        }
+        let count = bytes.len().min(self.chunk);
+        self.bytes.extend_from_slice(&bytes[..count]).unwrap();
+        Ok(count)
+    }
+}
+
+fn lists(numbers: &[u32], number: u64) -> bool
+    ensures { result ≡ is_listed numbers.now number }
+{
+    numbers.iter().any(|other| u64::from(*other) == number)
+}
