@@ -1,4 +1,4 @@
-ghost use Rattle.std.specs.Prelude.{◌≡◌, Some, IfOk, IfErr, IsTrue, OnOk, OnErr, map};
+ghost use Rattle.std.specs.Prelude.{◌≡◌, Some, None, IfOk, IfErr, IsTrue, OnOk, OnErr, map};
 ghost use Rattle.eris_base.specs.declared.ids.ShardId.{ShardId};
 ghost use Rattle.eris_txn.specs.declared.key.Key.{Key};
 ghost use Rattle.eris_txn.specs.Bodies.{with_shard, shards_of, participants_of, ascends_from, has_shard, any_on, keys_of};
@@ -89,7 +89,18 @@ impl Keyed for Lock {
 }
 
 /// The shards of the body's operations, locks or keys, ascending, each once.
+#[tactic(auto, using(crate::proofs::BodyLaws::participant_laws))]
 pub fn participants(alloc: Global, body: &Body) -> Result<Row<ShardId>, NoMemory>
+    ensures exact { IfOk result (λ shards. shards ≡ participants_of body.now) }
+    ensures ascend { IfOk result (λ shards. IsTrue (ascends_from None shards)) }
+    ensures named { IfOk result (λ shards. (shard : ShardId) → has_shard shards shard ≡ any_on (keys_of body.now) shard) }
+    ensures few { IfOk result (λ shards. IsTrue (body_has_size body.now) → IsTrue (is_few shards)) }
+{
+    let shards = shards_of_body(alloc, body)?;
+    Ok(shards)
+}
+
+fn shards_of_body(alloc: Global, body: &Body) -> Result<Row<ShardId>, NoMemory>
     ensures { IfOk result (λ shards. shards ≡ participants_of body.now) }
 {
     match body {

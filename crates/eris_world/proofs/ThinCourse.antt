@@ -24,7 +24,7 @@ use Rattle.eris_txn.specs.declared.answer.Answer.{Answer}
 use Rattle.eris_txn.specs.declared.answer.Answer.TheVariants.{Ops}
 use Rattle.eris_txn.specs.declared.txn.Txn.{Txn as Transaction}
 use Rattle.eris_world.specs.ThinNodes.{values_after, packet_at, stamp_at}
-use Rattle.eris_world.specs.ThinWorld.{World, start, waiting, the_client, submitted, handed, flowed, flowed_by, is_client, are_on_shard, unless, after, run, run_from}
+use Rattle.eris_world.specs.ThinWorld.{WorldState, start, waiting, the_client, submitted, handed, flowed, flowed_by, is_client, are_on_shard, unless, after, run, run_from}
 use Rattle.eris_world.proofs.ThinQueue.{drop-next, within}
 use Rattle.eris_world.proofs.ThinJobs.{Job, id_of, ask_of, packet_of, packets, asks, txns, submits, after_jobs, answer_at, replies, told, NumberedFrom, packets-append, asks-append, txns-append, submits-append, after_jobs-append, replies-append, told-append, values_after-packets, length-packets, number_behind, numbered_more}
 
@@ -94,7 +94,7 @@ in_order_answer top (happened.Answer other earlier ∷ events) id answer in_orde
 in_order_answer top (happened.Told client other earlier ∷ events) id answer in_order above = absurd in_order
 
 -- the jobs as far as each has come
-pub record Course (w : World) (answered held stamped asked : List Job) : Type 0 where
+pub record Course (w : WorldState) (answered held stamped asked : List Job) : Type 0 where
   pub numbered : NumberedFrom 1 (answered ++ (held ++ (stamped ++ asked)))
   pub counted : w.client.submitted ≡ length (answered ++ (held ++ (stamped ++ asked)))
   pub stamps : w.sequencer.stamped ≡ packets (answered ++ (held ++ stamped))
@@ -125,10 +125,10 @@ at_start = record {
 }
 
 -- the next job
-abbrev pub next_job : World → List Op → Job
+abbrev pub next_job : WorldState → List Op → Job
 next_job w ops = record { number = w.client.submitted + 1; ops = ops }
 
-module _ (w : World) (ops : List Op) (answered held stamped asked : List Job) (course : Course w answered held stamped asked) where
+module _ (w : WorldState) (ops : List Op) (answered held stamped asked : List Job) (course : Course w answered held stamped asked) where
   -- the jobs with one more at the end
   more : (job : Job) → answered ++ (held ++ (stamped ++ (asked ++ job ∷ []))) ≡ (answered ++ (held ++ (stamped ++ asked))) ++ job ∷ []
   more job = simp append_assoc
@@ -166,7 +166,7 @@ tail_is : {X : Type 0} (x y : X) (xs ys : List X) → x ∷ xs ≡ y ∷ ys → 
 tail_is x y xs ys is = cc
 
 -- the jobs of a course with a next one, whatever they are
-pub record Goes (w : World) : Type 0 where
+pub record Goes (w : WorldState) : Type 0 where
   pub answered : List Job
   pub held : List Job
   pub stamped : List Job
@@ -174,7 +174,7 @@ pub record Goes (w : World) : Type 0 where
   pub course : Course w answered held stamped asked
 
 -- what is left of the queue behind its first, with one message more
-module _ (w : World) (first : Message) (later : List Message) (is : waiting w ≡ first ∷ later) where
+module _ (w : WorldState) (first : Message) (later : List Message) (is : waiting w ≡ first ∷ later) where
   pub requeued : (message : Message) → drop (w.delivered + 1) (w.sent ++ message ∷ []) ≡ later ++ message ∷ []
   requeued message =
       let short : w.delivered + 1 ≤ length w.sent = within w.delivered w.sent first later is in
@@ -201,7 +201,7 @@ replies_first : (id : _) (answer : _) (later : List Message) (held : List Job) (
 replies_first id answer later [] values is = cc
 replies_first id answer later (job ∷ jobs) values is = (job, jobs, refl, cc, cc)
 
-module _ (w : World) (answered held stamped asked : List Job) (course : Course w answered held stamped asked) (later : List Message) where
+module _ (w : WorldState) (answered held stamped asked : List Job) (course : Course w answered held stamped asked) (later : List Message) where
   -- an ask is stamped
   pub course_of_ask : (job : Job) (jobs : List Job) → asked ≡ job ∷ jobs → waiting w ≡ ask_of job ∷ later
       → filter is_ask later ≡ asks jobs
@@ -301,7 +301,7 @@ module _ (w : World) (answered held stamped asked : List Job) (course : Course w
         last = goes_on.1 ∙ (number ∙ rw length-append (omega arith))
       }
 
-goes_submit : (w : World) (ops : List Op) → Goes w → Goes (submitted w ops)
+goes_submit : (w : WorldState) (ops : List Op) → Goes w → Goes (submitted w ops)
 goes_submit w ops goes = record {
   answered = goes.answered;
   held = goes.held;
@@ -310,7 +310,7 @@ goes_submit w ops goes = record {
   course = course_of_submit w ops goes.answered goes.held goes.stamped goes.asked goes.course
 }
 
-goes_flow : (w : World) (queue : List Message) → waiting w ≡ queue → Goes w → Goes (flowed_by w queue)
+goes_flow : (w : WorldState) (queue : List Message) → waiting w ≡ queue → Goes w → Goes (flowed_by w queue)
 goes_flow w [] wait goes = goes
 goes_flow w (Ask asker id body ∷ later) wait goes =
     let first : _ = asks_first asker id body later goes.asked (rw wait at goes.course.asks_wait) in
@@ -347,7 +347,7 @@ goes_flow w (Reply id answer ∷ later) wait goes =
     })
 
 -- a submission that is taken is not refused
-taken : (client shard : Bool) (w next : World)
+taken : (client shard : Bool) (w next : WorldState)
     → unless client NoSuchClient (unless shard NoSuchShard (Ok w)) ≡ Ok next → w ≡ next
 taken true true w next is = cc
 taken true false w next is = cc
@@ -355,25 +355,25 @@ taken false true w next is = cc
 taken false false w next is = cc
 
 -- whatever the event, the jobs go on
-goes_by : (w : World) (event : Event) (next : World) → Goes w → after w event ≡ Ok next → Goes next
+goes_by : (w : WorldState) (event : Event) (next : WorldState) → Goes w → after w event ≡ Ok next → Goes next
 goes_by w (Submit client ops) next goes is =
     subst Goes (taken (is_client client) (are_on_shard ops) (submitted w ops) next is) (goes_submit w ops goes)
 goes_by w Flow next goes is = let e : flowed w ≡ next = cc in subst Goes e (goes_flow w (waiting w) refl goes)
 
 -- an event and the ones after it
-unfolded : (step : Result World Refusal) (events : List Event) (last : World)
-    → (elim step as (λ result. Result World Refusal) [ Ok next ↦ run_from next events | Err refusal ↦ Err refusal ]) ≡ Ok last
-    → (next : World) × (step ≡ Ok next) × (run_from next events ≡ Ok last)
+unfolded : (step : Result WorldState Refusal) (events : List Event) (last : WorldState)
+    → (elim step as (λ result. Result WorldState Refusal) [ Ok next ↦ run_from next events | Err refusal ↦ Err refusal ]) ≡ Ok last
+    → (next : WorldState) × (step ≡ Ok next) × (run_from next events ≡ Ok last)
 unfolded (Ok next) events last is = (next, refl, is)
 unfolded (Err refusal) events last is = cc
 
-goes_from : (events : List Event) (w last : World) → Goes w → run_from w events ≡ Ok last → Goes last
+goes_from : (events : List Event) (w last : WorldState) → Goes w → run_from w events ≡ Ok last → Goes last
 goes_from [] w last goes is = let e : w ≡ last = cc in subst Goes e goes
 goes_from (event ∷ events) w last goes is =
     let step : _ = unfolded (after w event) events last is in
     goes_from events step.0 last (goes_by w event step.0 goes step.1) step.2
 
 -- the jobs of a run
-pub run_goes : (events : List Event) (w : World) → run events ≡ Ok w → Goes w
+pub run_goes : (events : List Event) (w : WorldState) → run events ≡ Ok w → Goes w
 run_goes events w is =
     let goes : Goes start = record { answered = []; held = []; stamped = []; asked = []; course = at_start } in goes_from events start w goes is

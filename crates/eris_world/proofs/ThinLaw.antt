@@ -17,7 +17,7 @@ use Rattle.eris_audit.specs.IsSerial.{IsSerial, IsOrderLine, HasItsLine, GuardsH
 use Rattle.eris_audit.specs.declared.outcome.Outcome.TheVariants.{Done}
 use Rattle.eris_audit.specs.Lines.{Line, lines_of}
 use Rattle.eris_world.specs.declared.thin_event.Event.{Event}
-use Rattle.eris_world.specs.ThinWorld.{World, run}
+use Rattle.eris_world.specs.ThinWorld.{WorldState, run}
 use Rattle.eris_world.specs.ThinOrder.{number_of, survives, order, line_of, order_lines, Good}
 use Rattle.eris_world.proofs.ThinJobs.{Job, id_of, packet_of, packets, submits, told, answer_at, after_jobs, NumberedFrom, packets-append, number_behind, length-packets}
 use Rattle.eris_world.proofs.ThinLines.{done_lines, done_lines-append, has_none, has_one, result_is, Knows, knows_front, numbered_front, numbered_back, not_true, or_right, or_left, first_submit-filter, first_submit-job}
@@ -70,7 +70,7 @@ none_held jobs numbered n (job ∷ some) some_numbered above =
     (held_none 1 jobs job numbered (omega (arith, some_numbered.0)),
      none_held jobs numbered (n + 1) some some_numbered.1 (omega arith))
 
-order_is : (w : World) (held stamped : List Job) → NumberedFrom 1 (held ++ stamped)
+order_is : (w : WorldState) (held stamped : List Job) → NumberedFrom 1 (held ++ stamped)
     → w.sequencer.stamped ≡ packets (held ++ stamped) → w.replica.held ≡ packets held → order w ≡ packets held
 order_is w held stamped numbered stamps holds =
     let front : NumberedFrom 1 held = numbered_front 1 held stamped numbered in
@@ -145,7 +145,7 @@ module _ (history : List HistoryEvent) (jobs more : List Job)
     told_each : told_of (IsToldOutcome (done_lines jobs))
     told_each xs job ys is = tt
 
-good_of : (w : World) → Goes w → Good w
+good_of : (w : WorldState) → Goes w → Good w
 good_of w goes =
     let jobs : List Job = goes.answered ++ goes.held in
     let more : List Job = goes.stamped ++ goes.asked in
@@ -179,5 +179,5 @@ good_of w goes =
       settled = record { rest = order w; joined = refl }
     }
 
-pub run_is_good : (events : List Event) (w : World) → run events ≡ Ok w → Good w
+pub run_is_good : (events : List Event) (w : WorldState) → run events ≡ Ok w → Good w
 run_is_good events w is = good_of w (run_goes events w is)

@@ -18,7 +18,7 @@ use Rattle.eris_world.specs.declared.thin_message.Message.{Message}
 use Rattle.eris_world.specs.declared.thin_message.Message.TheVariants as message
 
 -- the sequencer: the packets that it stamped, in order
-pub record Sequencer : Type 0 where
+pub record SequencerState : Type 0 where
   pub stamped : List Packet
 
 -- the stamp of epoch 0 with this number for shard 0
@@ -26,11 +26,11 @@ abbrev pub stamp_at : ℕ → Stamp
 stamp_at number = record { epoch = record { 0 = 0 }; places = (record { 0 = 0 }, number) ∷ [] }
 
 -- the next packet of a sequencer
-abbrev pub packet_at : Sequencer → ClientId → TxnId → Body → Packet
+abbrev pub packet_at : SequencerState → ClientId → TxnId → Body → Packet
 packet_at sequencer asker id body = record { stamp = stamp_at (length sequencer.stamped + 1); id = id; asker = asker; body = body }
 
 -- the replica: the packets that it holds, in order
-pub record Replica : Type 0 where
+pub record ReplicaState : Type 0 where
   pub held : List Packet
 
 -- the operations that a body carries
@@ -46,24 +46,24 @@ values_after [] values = values
 values_after (packet ∷ packets) values = values_after packets (after_all (ops_of packet.body) values)
 
 -- what a replica answers for a packet that comes after those that it holds
-abbrev pub answer_for : Replica → Packet → Answer
+abbrev pub answer_for : ReplicaState → Packet → Answer
 answer_for replica packet = Ops (answers (ops_of packet.body) (values_after replica.held no_values))
 
 -- the client: how many transactions it submitted
-pub record Client : Type 0 where
+pub record ClientState : Type 0 where
   pub submitted : ℕ
 
 -- the identity of the next transaction
-abbrev pub next_id : Client → TxnId
+abbrev pub next_id : ClientState → TxnId
 next_id client = record { client = record { 0 = 0 }; number = client.submitted + 1 }
 
 -- a stamping adds one packet, which the sequencer sends
-abbrev pub after_ask : Sequencer → ClientId → TxnId → Body → Sequencer
+abbrev pub after_ask : SequencerState → ClientId → TxnId → Body → SequencerState
 after_ask sequencer asker id body = record { stamped = sequencer.stamped ++ packet_at sequencer asker id body ∷ [] }
 
 -- a replica holds what it is handed, and answers it
-abbrev pub after_packet : Replica → Packet → Replica
+abbrev pub after_packet : ReplicaState → Packet → ReplicaState
 after_packet replica packet = record { held = replica.held ++ packet ∷ [] }
 
-abbrev pub after_submit : Client → Client
+abbrev pub after_submit : ClientState → ClientState
 after_submit client = record { submitted = client.submitted + 1 }
