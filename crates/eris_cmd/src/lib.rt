@@ -1,0 +1,8 @@
+//! The top call: from the words of a command line, the bytes of a source and a sink to a status.
+#![tactic(auto)]
+
+mod bytes;
+mod status;
+mod thin_line;
+
+pub use status::Status;
