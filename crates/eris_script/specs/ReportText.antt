@@ -9,29 +9,32 @@ use Rattle.eris_script.specs.ReplicaText.{replica_words}
 use Rattle.eris_script.specs.Words.{line}
 
 -- `eris report 1`
-abbrev pub title_words : List (List ℕ)
+unfoldable pub title_words : List (List ℕ)
 title_words = codes "eris" ∷ codes "report" ∷ codes "1" ∷ []
 
 -- `config S F C`
-abbrev pub config_words : Config → List (List ℕ)
+unfoldable pub config_words : Config → List (List ℕ)
 config_words config = codes "config" ∷ decimal config.shards ∷ decimal config.f ∷ decimal config.clients ∷ []
 
 -- `coordinator epoch E target T found N dropped N`
-abbrev pub coordinator_words : Report → List (List ℕ)
+unfoldable pub coordinator_words : Report → List (List ℕ)
 coordinator_words report =
     codes "coordinator" ∷ codes "epoch" ∷ decimal report.current.0 ∷ codes "target" ∷ decimal report.target.0
     ∷ codes "found" ∷ decimal report.found ∷ codes "dropped" ∷ decimal report.dropped ∷ []
 
--- `sent N`
-abbrev pub sent_words : ℕ → List (List ℕ)
-sent_words sent = codes "sent" ∷ decimal sent ∷ []
+-- the lines before those of the history
+unfoldable pub head_lines : Config → List (List (List ℕ))
+head_lines config = title_words ∷ config_words config ∷ []
+
+-- the lines behind those of the replicas: the coordinator's, `sent N` and `end`
+unfoldable pub foot_lines : Report → List (List (List ℕ))
+foot_lines report = coordinator_words report ∷ (codes "sent" ∷ decimal report.sent ∷ []) ∷ (codes "end" ∷ []) ∷ []
 
 -- the words of each line of a report
 abbrev pub report_lines : Report → List (List (List ℕ))
 report_lines report =
-    (title_words ∷ config_words report.config ∷ [])
-    ++ map event_words report.history ++ map order_words report.order ++ map replica_words report.replicas
-    ++ (coordinator_words report ∷ sent_words report.sent ∷ (codes "end" ∷ []) ∷ [])
+    head_lines report.config ++ map event_words report.history ++ map order_words report.order
+    ++ map replica_words report.replicas ++ foot_lines report
 
 abbrev pub report_text : Report → List ℕ
 report_text report = flat_map line (report_lines report)
