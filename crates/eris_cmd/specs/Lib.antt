@@ -1,2 +1,3 @@
+pub mod Bytes
 pub mod Statuses
 pub mod ThinLines

@@ -1,14 +1,11 @@
 -- What a line behind the header says.
-use Rattle.std.specs.Prelude.{ℕ, ◌-◌, ◌^◌, ◌==◌, Bool, true, false, Option, Some, None, option_map, option_and_then, List, [], ◌∷◌, length, take, drop, bytes_eq, codes, if◌then◌else◌}
+use Rattle.std.specs.Prelude.{ℕ, ◌-◌, ◌^◌, ◌==◌, Bool, true, Option, Some, None, option_map, option_and_then, List, [], ◌∷◌, codes, if◌then◌else◌}
 use Rattle.std.specs.List.{before_first, after_first}
 use Rattle.eris_txn.specs.Names.{is_name}
 use Rattle.eris_script.specs.Decimal.{read_decimal}
+use Rattle.eris_cmd.specs.Bytes.{behind}
 use Rattle.eris_cmd.specs.declared.thin_line.ThinLine.{ThinLine}
 use Rattle.eris_cmd.specs.declared.thin_line.ThinLine.TheVariants.{Skip, Put, Flow}
-
--- what follows a front; None where the line doesn't begin with it
-abbrev pub behind : List ℕ → List ℕ → Option (List ℕ)
-behind front line = if bytes_eq (take (length front) line) front then Some (drop (length front) line) else None
 
 abbrev pub is_space : ℕ → Bool
 is_space byte = byte == 32

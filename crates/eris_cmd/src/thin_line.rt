@@ -1,7 +1,7 @@
 ghost use Rattle.std.specs.Prelude.{◌≡◌};
-ghost use Rattle.eris_cmd.specs.ThinLines.{line_of, put_of, flow_of};
+ghost use Rattle.eris_cmd.specs.ThinLines.{line_of, asked_by, put_of, flow_of};
 
-use crate::bytes::cut;
+use crate::bytes::{behind, cut};
 use eris_script::read_number;
 use eris_txn::Name;
 
@@ -19,13 +19,20 @@ pub enum ThinLine {
 pub(crate) fn read_line(line: &[u8]) -> Option<ThinLine>
     ensures { result ≡ line_of line.now }
 {
-    if let [] | [b'#', ..] = line {
-        return Some(ThinLine::Skip);
+    match line {
+        [] | [b'#', ..] => Some(ThinLine::Skip),
+        _ => read_asked(line),
     }
-    if let Some(words) = line.strip_prefix(b"submit 0 put 0/") {
+}
+
+#[tactic(auto, unfolding(crate::specs::ThinLines::asked_by))]
+fn read_asked(line: &[u8]) -> Option<ThinLine>
+    ensures { result ≡ asked_by line.now }
+{
+    if let Some(words) = behind(line, b"submit 0 put 0/") {
         return read_put(words);
     }
-    read_flow(line.strip_prefix(b"flow ")?)
+    read_flow(behind(line, b"flow ")?)
 }
 
 #[tactic(auto, unfolding(crate::specs::ThinLines::put_of))]
