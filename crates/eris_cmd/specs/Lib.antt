@@ -1,3 +1,4 @@
 pub mod Bytes
 pub mod Statuses
 pub mod ThinLines
+pub mod ThinScript

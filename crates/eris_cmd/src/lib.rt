@@ -2,6 +2,7 @@
 #![tactic(auto)]
 
 mod bytes;
+mod lines;
 mod status;
 mod thin_line;
 
