@@ -1,6 +1,5 @@
 pub mod Bodies
 pub mod BodyFaults
-pub mod KeyValues
 pub mod Keys
 pub mod NameCells
 pub mod Names
@@ -10,3 +9,4 @@ pub mod PlanFaults
 pub mod PlanValues
 pub mod Plans
 pub mod Sizes
+pub mod KeyValues

@@ -4,3 +4,5 @@ mod ThinCourse
 mod ThinLines
 mod ThinHistory
 mod ThinLaw
+mod ThinValues
+mod ThinCounts

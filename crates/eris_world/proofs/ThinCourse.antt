@@ -105,6 +105,7 @@ pub record Course (w : WorldState) (answered held stamped asked : List Job) : Ty
   pub delivered : w.delivered ≤ length w.sent
   pub submits_are : filter is_submit w.history ≡ submits (answered ++ (held ++ (stamped ++ asked)))
   pub answers_are : filter is_answer w.history ≡ told answered no_values
+  pub messages : length w.sent ≡ length (answered ++ (held ++ (stamped ++ asked))) + length (answered ++ (held ++ stamped)) + length (answered ++ held)
   pub in_order : IsInOrder 0 w.history
   pub last : last_answered 0 w.history ≡ length answered
 
@@ -120,6 +121,7 @@ at_start = record {
   delivered = omega arith;
   submits_are = refl;
   answers_are = refl;
+  messages = refl;
   in_order = tt;
   last = refl
 }
@@ -154,6 +156,7 @@ module _ (w : WorldState) (ops : List Op) (answered held stamped asked : List Jo
       delivered = rw length-append (omega (arith, course.delivered));
       submits_are = rw (more job, filter-append, submits-append, course.submits_are) refl;
       answers_are = rw (filter-append, course.answers_are) (simp append-nil);
+      messages = rw (more job, length-append) (omega (arith, course.messages, length-append jobs (job ∷ [])));
       in_order = goes_on.0;
       last = goes_on.1 ∙ course.last
     }
@@ -231,6 +234,7 @@ module _ (w : WorldState) (answered held stamped asked : List Job) (course : Cou
         delivered = rw length-append (omega (arith, within w.delivered w.sent _ _ wait));
         submits_are = rw as_one course.submits_are;
         answers_are = course.answers_are;
+        messages = rw (as_one, length-append) (omega (arith, course.messages, simp length-append at (ap length as_one), length-append answered (held ++ (stamped ++ job ∷ [])), length-append held (stamped ++ job ∷ []), length-append stamped (job ∷ []), length-append answered (held ++ stamped), length-append held stamped));
         in_order = course.in_order;
         last = course.last
       }
@@ -262,6 +266,7 @@ module _ (w : WorldState) (answered held stamped asked : List Job) (course : Cou
         delivered = rw length-append (omega (arith, within w.delivered w.sent _ _ wait));
         submits_are = rw as_one course.submits_are;
         answers_are = course.answers_are;
+        messages = rw (as_one, stamps_one, length-append) (omega (arith, course.messages, length-append answered (held ++ job ∷ []), length-append held (job ∷ []), length-append answered held));
         in_order = course.in_order;
         last = course.last
       }
@@ -297,6 +302,7 @@ module _ (w : WorldState) (answered held stamped asked : List Job) (course : Cou
         delivered = within w.delivered w.sent _ _ wait;
         submits_are = rw (as_one, filter-append, course.submits_are) (simp append-nil);
         answers_are = rw (filter-append, course.answers_are) (sym (told-append answered (job ∷ []) no_values));
+        messages = rw (as_one, stamps_one, holds_one) course.messages;
         in_order = goes_on.0;
         last = goes_on.1 ∙ (number ∙ rw length-append (omega arith))
       }
@@ -361,7 +367,7 @@ goes_by w (Submit client ops) next goes is =
 goes_by w Flow next goes is = let e : flowed w ≡ next = cc in subst Goes e (goes_flow w (waiting w) refl goes)
 
 -- an event and the ones after it
-unfolded : (step : Result WorldState Refusal) (events : List Event) (last : WorldState)
+pub unfolded : (step : Result WorldState Refusal) (events : List Event) (last : WorldState)
     → (elim step as (λ result. Result WorldState Refusal) [ Ok next ↦ run_from next events | Err refusal ↦ Err refusal ]) ≡ Ok last
     → (next : WorldState) × (step ≡ Ok next) × (run_from next events ≡ Ok last)
 unfolded (Ok next) events last is = (next, refl, is)

@@ -70,7 +70,7 @@ none_held jobs numbered n (job ∷ some) some_numbered above =
     (held_none 1 jobs job numbered (omega (arith, some_numbered.0)),
      none_held jobs numbered (n + 1) some some_numbered.1 (omega arith))
 
-order_is : (w : WorldState) (held stamped : List Job) → NumberedFrom 1 (held ++ stamped)
+pub order_is : (w : WorldState) (held stamped : List Job) → NumberedFrom 1 (held ++ stamped)
     → w.sequencer.stamped ≡ packets (held ++ stamped) → w.replica.held ≡ packets held → order w ≡ packets held
 order_is w held stamped numbered stamps holds =
     let front : NumberedFrom 1 held = numbered_front 1 held stamped numbered in

@@ -1,3 +1,5 @@
 pub mod ThinNodes
 pub mod ThinWorld
 pub mod ThinOrder
+pub mod ThinKept
+pub mod ThinReport
