@@ -9,4 +9,5 @@ joined word [] = sym (append-nil word)
 joined word (next ∷ words) = ap (λ rest. word ++ 32 ∷ rest) (joined next words)
 
 pub ruleset joining = (joined, append_assoc)
+
 pub ruleset lines_joined = (flat_map-append, append_assoc)

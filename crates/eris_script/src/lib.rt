@@ -17,3 +17,6 @@ pub use number::{append_decimal, read_number};
 pub use reason::Reason;
 pub use report::{ReplicaLine, ReplicaState, Report};
 pub use report_text::print_report;
+
+#[cfg(test)]
+mod tests;
