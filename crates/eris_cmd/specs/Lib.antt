@@ -2,3 +2,4 @@ pub mod Bytes
 pub mod Statuses
 pub mod ThinLines
 pub mod ThinScript
+pub mod Texts

@@ -4,6 +4,8 @@
 mod bytes;
 mod lines;
 mod status;
+mod telling;
+mod texts;
 mod thin_line;
 
 pub use status::Status;
