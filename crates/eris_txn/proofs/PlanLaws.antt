@@ -64,8 +64,8 @@ writes_from-with_value [] key value values h = refl
 writes_from-with_value (setting ∷ settings) key value values h =
     let parts = or_parts (same_key setting.key key) (sets settings key) h in
     let here : write_of setting (with_value key value values) ≡ write_of setting values =
-        ap (λ before. record { key = setting.key; value = set_by setting.how before })
-        (with_value-other key value values setting.key (same_key-symm key setting.key ∙ parts.0)) in
+    ap (λ before. record { key = setting.key; value = set_by setting.how before })
+    (with_value-other key value values setting.key (same_key-symm key setting.key ∙ parts.0)) in
     let rest = writes_from-with_value settings key value values parts.1 in
     cc
 
@@ -95,7 +95,7 @@ guards_hold-map keys values [] h = refl
 guards_hold-map keys values (guard ∷ guards) h =
     let parts = and_parts (is_among keys guard.key) (list_all (λ guard. is_among keys guard.key) guards) h in
     let here : guard_holds guard (value_in keys (map values keys)) ≡ guard_holds guard values =
-        ap (λ value. nat_le guard.least (unwrap_or value 0)) (value_in-map keys values guard.key parts.0) in
+    ap (λ value. nat_le guard.least (unwrap_or value 0)) (value_in-map keys values guard.key parts.0) in
     let rest = guards_hold-map keys values guards parts.1 in
     cc
 
@@ -104,7 +104,7 @@ writes_from-map keys values [] h = refl
 writes_from-map keys values (setting ∷ settings) h =
     let parts = and_parts (is_among keys setting.key) (list_all (λ setting. is_among keys setting.key) settings) h in
     let here : write_of setting (value_in keys (map values keys)) ≡ write_of setting values =
-        ap (λ before. record { key = setting.key; value = set_by setting.how before }) (value_in-map keys values setting.key parts.0) in
+    ap (λ before. record { key = setting.key; value = set_by setting.how before }) (value_in-map keys values setting.key parts.0) in
     let rest = writes_from-map keys values settings parts.1 in
     cc
 

@@ -9,7 +9,7 @@ use crate::key::Key;
 use crate::lock::Lock;
 use crate::op::Op;
 use crate::plan::Write;
-use eris_base::{NoMemory, Row, ShardId};
+use eris_base::{Dup, NoMemory, Row, Same, ShardId};
 use std::alloc::Global;
 use thiserror::Error;
 
@@ -54,6 +54,30 @@ impl Body {
             return Err(BodyFault::TooMany);
         }
         Ok(Body::Independent(ops))
+    }
+}
+
+impl Dup for Body {
+    fn copy(&self, alloc: Global) -> Result<Body, NoMemory> {
+        match self {
+            Body::Independent(ops) => Ok(Body::Independent(ops.copy(alloc)?)),
+            Body::Prelim(locks) => Ok(Body::Prelim(locks.copy(alloc)?)),
+            Body::Commit(keys, writes) => Ok(Body::Commit(keys.copy(alloc)?, writes.copy(alloc)?)),
+            Body::Abort(keys) => Ok(Body::Abort(keys.copy(alloc)?)),
+        }
+    }
+}
+
+impl Same for Body {
+    fn same(&self, other: &Body) -> bool {
+        match (self, other) {
+            (Body::Independent(some), Body::Independent(others)) => some.same(others),
+            (Body::Prelim(some), Body::Prelim(others)) => some.same(others),
+            (Body::Commit(keys, writes), Body::Commit(others, rest)) => keys.same(others)
+                && writes.same(rest),
+            (Body::Abort(some), Body::Abort(others)) => some.same(others),
+            _ => false,
+        }
     }
 }
 
