@@ -27,3 +27,6 @@ pub use packet::Packet;
 pub use plan::{Guard, How, Plan, PlanFault, Setting, Write};
 pub use txn::Txn;
 pub use values::KeyValues;
+
+#[cfg(test)]
+mod tests;

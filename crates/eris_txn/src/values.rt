@@ -68,7 +68,7 @@ impl KeyValues {
         ensures ok { OnOk result (values_of self.new ≡ after op.now (values_of self.old)) }
         ensures err { OnErr result (self.new ≡ self.old) }
     {
-        let key = key_in(op);
+        let key = op.key();
         let before = self.value_of(key);
         let (left, answer) = apply_op(before, op);
         match left {
@@ -88,13 +88,5 @@ impl KeyValues {
             made.push(self.apply(op)?)?;
         }
         Ok(made)
-    }
-}
-
-fn key_in(op: &Op) -> &Key
-    ensures { result.now ≡ key_of op.now }
-{
-    match op {
-        Op::Get(key) | Op::Put(key, _) | Op::Del(key) | Op::Add(key, _) | Op::Cas(key, _, _) => key,
     }
 }

@@ -6,3 +6,4 @@ mod ThinHistory
 mod ThinLaw
 mod ThinValues
 mod ThinCounts
+mod ThinSteps

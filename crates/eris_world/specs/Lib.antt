@@ -3,3 +3,4 @@ pub mod ThinWorld
 pub mod ThinOrder
 pub mod ThinKept
 pub mod ThinReport
+pub mod ThinWaiting

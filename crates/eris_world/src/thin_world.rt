@@ -1,4 +1,5 @@
-ghost use Rattle.std.specs.Prelude.{◌≡◌, ◌≢◌, ◌+◌, ◌*◌, ◌<◌, ◌^◌, [], true, false, drop, IsTrue, Ok, Err, IfOk, IfErr, OnOk, OnErr, MatchOption, ◌∷◌, ◌↔◌, is_some};
+ghost use Rattle.std.specs.Prelude.{◌≡◌, ◌≢◌, ◌+◌, ◌*◌, ◌<◌, ◌^◌, [], true, false, drop, Ok, Err, Some, IfOk, IfErr, OnOk, OnErr, is_some, ◌≤◌, length};
+ghost use Rattle.eris_world.specs.ThinWaiting.{first_of};
 ghost use Rattle.eris_world.specs.ThinWorld.{start, submitted, flowed, are_on_shard, after, waiting};
 ghost use Rattle.eris_world.specs.ThinReport.{report_of};
 
@@ -8,7 +9,7 @@ use crate::thin_nodes::{hold, stamp};
 use crate::thin_refusal::Refusal;
 use eris_base::{ClientId, Config, Dup, Epoch, NoMemory, ReplicaId, Row, ShardId, TxnId, View};
 use eris_script::{ReplicaLine, ReplicaState, Report};
-use eris_txn::{Body, HistoryEvent, KeyValues, Op, Packet, Txn};
+use eris_txn::{Answer, Body, HistoryEvent, KeyValues, Op, Packet, Txn};
 use std::alloc::Global;
 use std::marker::Model;
 
@@ -88,5 +89,163 @@ impl World {
         ensures { result ≡ self.now.spent }
     {
         self.spent
+    }
+
+    /// One event. `NoSuchClient` exactly where a submission's client isn't in the config, else `NoSuchShard`
+    /// exactly where one of its keys is of a shard that isn't; the world is then as before. After `NoMemory`
+    /// it is spent.
+    pub fn apply(&mut self, event: Event) -> Result<(), Refusal>
+        requires unspent { self.old.spent ≡ false }
+        requires room { 3 * (self.old.state.client.submitted + 1) < 2 ^ 32 }
+        ensures ok { OnOk result ((after self.old.state event ≡ Ok self.new.state) × (self.new.spent ≡ false)) }
+        ensures refused {
+            IfErr result (λ refusal. refusal ≢ Refusal.NoMemory
+                → (after self.old.state event ≡ Err refusal) × (self.new ≡ self.old))
+        }
+        ensures no_memory { result ≡ Err Refusal.NoMemory → self.new.spent ≡ true }
+    {
+        match event {
+            Event::Submit { client, ops } => {
+                if client != ClientId(0) {
+                    return Err(Refusal::NoSuchClient);
+                }
+                if !are_of_the_shard(ops.as_slice()) {
+                    return Err(Refusal::NoSuchShard);
+                }
+                self.submit(ops)?;
+                Ok(())
+            }
+            Event::Flow => {
+                self.flow()?;
+                Ok(())
+            }
+        }
+    }
+
+    /// Whether a message waits, so that a flow would deliver it.
+    pub fn has_waiting(&self) -> bool
+        requires { self.now.spent ≡ false }
+        ensures { result ≡ is_some (first_of (waiting self.now.state)) }
+    {
+        has_next(self.sent.as_slice(), self.delivered)
+    }
+
+    /// Delivers the lowest waiting message, if there is one.
+    fn flow(&mut self) -> Result<(), NoMemory>
+        requires { self.old.spent ≡ false }
+        ensures ok { OnOk result ((self.new.state ≡ flowed self.old.state) × (self.new.spent ≡ false)) }
+        ensures err { OnErr result (self.new.spent ≡ true) }
+    {
+        match self.next_message() {
+            Ok(None) => Ok(()),
+            Ok(Some(Message::Ask { asker, id, body })) => self.deliver_ask(asker, id, body),
+            Ok(Some(Message::Txn { packet })) => self.deliver_packet(packet),
+            Ok(Some(Message::Reply { id, answer })) => self.deliver_reply(id, answer),
+            Err(NoMemory) => {
+                self.spent = true;
+                Err(NoMemory)
+            }
+        }
+    }
+
+    fn next_message(&self) -> Result<Option<Message>, NoMemory>
+        requires { self.now.spent ≡ false }
+        ensures { IfOk result (λ next. next ≡ first_of (waiting self.now.state)) }
+    {
+        next_of(self.alloc, self.sent.as_slice(), self.delivered)
+    }
+
+    fn deliver_ask(&mut self, asker: ClientId, id: TxnId, body: Body) -> Result<(), NoMemory>
+        requires unspent { self.old.spent ≡ false }
+        requires next { first_of (waiting self.old.state) ≡ Some (Message.Ask asker id body) }
+        ensures ok { OnOk result ((self.new.state ≡ flowed self.old.state) × (self.new.spent ≡ false)) }
+        ensures err { OnErr result (self.new.spent ≡ true) }
+    {
+        self.spent = true;
+        self.delivered += 1;
+        stamp(self.alloc, &mut self.stamped, &mut self.sent, asker, id, body)?;
+        self.spent = false;
+        Ok(())
+    }
+
+    fn deliver_packet(&mut self, packet: Packet) -> Result<(), NoMemory>
+        requires unspent { self.old.spent ≡ false }
+        requires next { first_of (waiting self.old.state) ≡ Some (Message.Txn packet) }
+        ensures ok { OnOk result ((self.new.state ≡ flowed self.old.state) × (self.new.spent ≡ false)) }
+        ensures err { OnErr result (self.new.spent ≡ true) }
+    {
+        self.spent = true;
+        self.delivered += 1;
+        hold(self.alloc, &mut self.held, &mut self.values, &mut self.sent, packet)?;
+        self.spent = false;
+        Ok(())
+    }
+
+    fn deliver_reply(&mut self, id: TxnId, answer: Answer) -> Result<(), NoMemory>
+        requires unspent { self.old.spent ≡ false }
+        requires next { first_of (waiting self.old.state) ≡ Some (Message.Reply id answer) }
+        ensures ok { OnOk result ((self.new.state ≡ flowed self.old.state) × (self.new.spent ≡ false)) }
+        ensures err { OnErr result (self.new.spent ≡ true) }
+    {
+        self.spent = true;
+        self.delivered += 1;
+        self.history.push(HistoryEvent::Answer(id, answer))?;
+        self.spent = false;
+        Ok(())
+    }
+
+    fn submit(&mut self, ops: Row<Op>) -> Result<(), NoMemory>
+        requires unspent { self.old.spent ≡ false }
+        requires room { 3 * (self.old.state.client.submitted + 1) < 2 ^ 32 }
+        requires shard { are_on_shard ops ≡ true }
+        ensures ok { OnOk result ((self.new.state ≡ submitted self.old.state ops) × (self.new.spent ≡ false)) }
+        ensures err { OnErr result (self.new.spent ≡ true) }
+    {
+        self.spent = true;
+        let id = TxnId {
+            client: ClientId(0),
+            number: self.submitted + 1,
+        };
+        let asked = ops.copy(self.alloc)?;
+        self.history.push(HistoryEvent::Submit(id, Txn::Whole(ops)))?;
+        self.sent.push(Message::Ask {
+            asker: ClientId(0),
+            id,
+            body: Body::Independent(asked),
+        })?;
+        self.submitted += 1;
+        self.spent = false;
+        Ok(())
+    }
+}
+
+fn are_of_the_shard(ops: &[Op]) -> bool
+    ensures { result ≡ are_on_shard ops.now }
+{
+    ops.iter().all(|op| op.key().shard == ShardId(0))
+}
+
+/// The items from a place on.
+fn rest_from<T>(items: &[T], at: usize) -> &[T]
+    requires { at ≤ length items.now }
+    ensures { result.now ≡ drop at items.now }
+{
+    &items[at..]
+}
+
+fn has_next(sent: &[Message], delivered: usize) -> bool
+    requires { delivered ≤ length sent.now }
+    ensures { result ≡ is_some (first_of (drop delivered sent.now)) }
+{
+    matches!(rest_from(sent, delivered), [_, ..])
+}
+
+fn next_of(alloc: Global, sent: &[Message], delivered: usize) -> Result<Option<Message>, NoMemory>
+    requires { delivered ≤ length sent.now }
+    ensures { IfOk result (λ next. next ≡ first_of (drop delivered sent.now)) }
+{
+    match rest_from(sent, delivered) {
+        [next, ..] => Ok(Some(next.copy(alloc)?)),
+        [] => Ok(None),
     }
 }
