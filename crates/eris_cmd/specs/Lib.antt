@@ -3,3 +3,4 @@ pub mod Statuses
 pub mod ThinLines
 pub mod ThinScript
 pub mod Texts
+pub mod ThinRuns

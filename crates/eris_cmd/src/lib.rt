@@ -7,5 +7,6 @@ mod status;
 mod telling;
 mod texts;
 mod thin_line;
+mod thin_run;
 
 pub use status::Status;
