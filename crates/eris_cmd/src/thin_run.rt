@@ -1,11 +1,7 @@
-ghost use Rattle.std.specs.Prelude.{◌≡◌, ◌+◌, ◌*◌, ◌^◌, ◌<◌, ◌≤◌, ℕ, [], ◌∷◌, Ok, Err, Some, None, false, length, replicate, IfOk, IfErr, OnOk};
-ghost use Rattle.eris_script.specs.declared.reason.Reason.TheVariants.{Header, Word};
-ghost use Rattle.eris_world.specs.declared.thin_event.Event.{Event as WorldEvent};
+ghost use Rattle.std.specs.Prelude.{◌≡◌, ◌+◌, ◌*◌, ◌^◌, ◌<◌, ◌≤◌, [], ◌∷◌, Err, false, bytes_eq, codes, length, replicate, IfOk, IfErr, OnOk};
 ghost use Rattle.eris_world.specs.declared.thin_event.Event.TheVariants.{Flow as flow_event};
-ghost use Rattle.eris_cmd.specs.declared.thin_line.ThinLine.{ThinLine as Said};
-ghost use Rattle.eris_cmd.specs.ThinLines.{line_of};
 ghost use Rattle.eris_cmd.specs.ThinScript.{lines, events_of, events_from, put_event, script};
-ghost use Rattle.eris_cmd.specs.ThinRuns.{Takes, IsAfterScript, IfBad};
+ghost use Rattle.eris_cmd.specs.ThinRuns.{Takes, TakesLine, IsFormless, TakesLines, IsAfterScript, IfBad};
 
 use crate::lines::first_line;
 use crate::thin_line::{ThinLine, read_line};
@@ -97,8 +93,8 @@ fn take_line(alloc: Global, world: &mut World, said: &ThinLine) -> Result<(), No
 fn run_line(alloc: Global, world: &mut World, line: &[u8], number: u32) -> Result<(), Stop>
     requires unspent { world.old.spent ≡ false }
     requires room { 3 * (world.old.state.client.submitted + 1) < 2 ^ 32 }
-    ensures ok { OnOk result ((said : Said) × (line_of line.now ≡ Some said) × Takes world.old world.new (events_of said) 1) }
-    ensures bad { IfErr result (λ stop. IfBad stop (λ at reason. (line_of line.now ≡ None) × (at ≡ number) × (reason ≡ Word))) }
+    ensures ok { OnOk result (TakesLine world.old world.new line.now) }
+    ensures bad { IfErr result (λ stop. IfBad stop (IsFormless line.now number)) }
 {
     match read_line(line) {
         Some(said) => Ok(take_line(alloc, world, &said)?),
@@ -107,4 +103,46 @@ fn run_line(alloc: Global, world: &mut World, line: &[u8], number: u32) -> Resul
             reason: Reason::Word,
         }),
     }
+}
+
+// Runs the lines behind the header, of which the first is line 2.
+fn run_lines(alloc: Global, world: &mut World, text: &[u8]) -> Result<(), Stop>
+    requires unspent { world.old.spent ≡ false }
+    requires room { 3 * (world.old.state.client.submitted + length text.now + 1) < 2 ^ 32 }
+    ensures ok { OnOk result (TakesLines world.old world.new text.now) }
+    ensures bad { IfErr result (λ stop. IfBad stop (λ line reason. events_from 2 (lines text.now) ≡ Err (record { line = line; reason = reason }))) }
+{
+    let mut rest = text;
+    let mut number = 2;
+    while !rest.is_empty() {
+        let (line, more) = first_line(rest);
+        run_line(alloc, world, line, number)?;
+        rest = more;
+        number += 1;
+    }
+    Ok(())
+}
+
+fn is_header(line: &[u8]) -> bool
+    ensures { result ≡ bytes_eq line.now (codes "eris 1 1 0 1") }
+{
+    line == b"eris 1 1 0 1".as_slice()
+}
+
+// Runs a whole script, and answers the world after it.
+pub(crate) fn run_script(alloc: Global, text: &[u8]) -> Result<World, Stop>
+    requires { length text.now ≤ 4194304 }
+    ensures ok { IfOk result (IsAfterScript text.now) }
+    ensures bad { IfErr result (λ stop. IfBad stop (λ line reason. script text.now ≡ Err (record { line = line; reason = reason }))) }
+{
+    let (header, rest) = first_line(text);
+    if !is_header(header) {
+        return Err(Stop::Bad {
+            line: 1,
+            reason: Reason::Header,
+        });
+    }
+    let mut world = World::new(alloc);
+    run_lines(alloc, &mut world, rest)?;
+    Ok(world)
 }
