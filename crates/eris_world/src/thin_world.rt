@@ -1,12 +1,14 @@
-ghost use Rattle.std.specs.Prelude.{◌≡◌, ◌≢◌, ◌+◌, ◌*◌, ◌<◌, ◌^◌, [], true, false, drop, Ok, Err, Some, IfOk, IfErr, OnOk, OnErr, is_some, ◌≤◌, length};
+ghost use Rattle.std.specs.Prelude.{◌≡◌, ◌≢◌, ◌+◌, ◌*◌, ◌<◌, ◌^◌, [], true, false, drop, Ok, Err, Some, IfOk, IfErr, OnOk, OnErr, is_some, ◌≤◌, ◌∷◌, length, map};
 ghost use Rattle.eris_world.specs.ThinWaiting.{first_of};
 ghost use Rattle.eris_world.specs.ThinWorld.{start, submitted, flowed, are_on_shard, after, waiting};
-ghost use Rattle.eris_world.specs.ThinReport.{report_of};
+ghost use Rattle.eris_world.specs.ThinReport.{report_of, replica_line};
+ghost use Rattle.eris_world.specs.ThinOrder.{line_of};
 
 use crate::thin_event::Event;
 use crate::thin_message::Message;
 use crate::thin_nodes::{hold, stamp};
 use crate::thin_refusal::Refusal;
+use eris_audit::{OrderLine, Outcome};
 use eris_base::{ClientId, Config, Dup, Epoch, NoMemory, ReplicaId, Row, ShardId, TxnId, View};
 use eris_script::{ReplicaLine, ReplicaState, Report};
 use eris_txn::{Answer, Body, HistoryEvent, KeyValues, Op, Packet, Txn};
@@ -130,6 +132,26 @@ impl World {
         has_next(self.sent.as_slice(), self.delivered)
     }
 
+    /// What the world reports of itself: its config, what happened at the client, the order, and how far
+    /// each node has come. It doesn't spend the world.
+    pub fn report(&self) -> Result<Report, NoMemory>
+        requires { self.now.spent ≡ false }
+        ensures { IfOk result (λ report. report ≡ report_of self.now.state) }
+    {
+        let held = self.held.len() as u32;
+        Ok(Report {
+            config: the_config(),
+            history: self.history.copy(self.alloc)?,
+            order: lines_of_packets(self.alloc, self.held.as_slice())?,
+            replicas: replica_lines(self.alloc, held)?,
+            current: Epoch(0),
+            target: Epoch(0),
+            found: 0,
+            dropped: 0,
+            sent: self.sent.len() as u32,
+        })
+    }
+
     /// Delivers the lowest waiting message, if there is one.
     fn flow(&mut self) -> Result<(), NoMemory>
         requires { self.old.spent ≡ false }
@@ -248,4 +270,44 @@ fn next_of(alloc: Global, sent: &[Message], delivered: usize) -> Result<Option<M
         [next, ..] => Ok(Some(next.copy(alloc)?)),
         [] => Ok(None),
     }
+}
+
+fn the_config() -> Config
+    ensures { result ≡ record { shards = 1; f = 0; clients = 1 } }
+{
+    match Config::new(1, 0, 1) {
+        Ok(config) => config,
+        Err(_) => unreachable!(),
+    }
+}
+
+fn lines_of_packets(alloc: Global, packets: &[Packet]) -> Result<Row<OrderLine>, NoMemory>
+    ensures { IfOk result (λ lines. lines ≡ map line_of packets.now) }
+{
+    let mut lines = Row::new(alloc);
+    for packet in packets {
+        lines.push(OrderLine {
+            id: packet.id,
+            outcome: Outcome::Done,
+            stamp: packet.stamp.copy(alloc)?,
+        })?;
+    }
+    Ok(lines)
+}
+
+fn replica_lines(alloc: Global, held: u32) -> Result<Row<ReplicaLine>, NoMemory>
+    ensures { IfOk result (λ lines. lines ≡ replica_line held ∷ []) }
+{
+    let mut lines = Row::new(alloc);
+    lines.push(ReplicaLine {
+        shard: ShardId(0),
+        replica: ReplicaId(0),
+        state: ReplicaState::Normal,
+        epoch: Epoch(0),
+        view: View(0),
+        held,
+        length: held,
+        settled: 0,
+    })?;
+    Ok(lines)
 }
