@@ -18,7 +18,8 @@ none_written n cells whole = grind (arith, common_steps)
 -- the last digit stands before what stood behind all digits
 pub last_digit_written : (n start : ℕ) (cells : List ℕ) → 10 ≤ n → n < 2 ^ 64 → 0 < start → start ≤ length cells →
     decimal (n / 10) ++ drop (start - 1) (slice_set cells (start - 1) (48 + n % 10)) ≡ decimal n ++ drop start cells
-last_digit_written n start cells large small some within = rw (decimal_step n large small) (grind (arith, common_steps))
+last_digit_written n start cells large small some within =
+    rw (decimal_step n large small) (grind (arith, common_steps))
 
 -- and so does the only digit that is left
 pub first_digit_written : (n start : ℕ) (cells : List ℕ) → n < 10 → 0 < start → start ≤ length cells →
