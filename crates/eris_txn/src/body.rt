@@ -1,4 +1,4 @@
-ghost use Rattle.std.specs.Prelude.{◌≡◌, Some, IfOk, IfErr, IsTrue, OnOk, OnErr, map};
+ghost use Rattle.std.specs.Prelude.{◌≡◌, Some, None, IfOk, IfErr, IsTrue, OnOk, OnErr, map};
 ghost use Rattle.eris_base.specs.declared.ids.ShardId.{ShardId};
 ghost use Rattle.eris_txn.specs.declared.key.Key.{Key};
 ghost use Rattle.eris_txn.specs.Bodies.{with_shard, shards_of, participants_of, ascends_from, has_shard, any_on, keys_of};
@@ -9,7 +9,7 @@ use crate::key::Key;
 use crate::lock::Lock;
 use crate::op::Op;
 use crate::plan::Write;
-use eris_base::{NoMemory, Row, ShardId};
+use eris_base::{Dup, NoMemory, Row, Same, ShardId};
 use std::alloc::Global;
 use thiserror::Error;
 
@@ -57,6 +57,30 @@ impl Body {
     }
 }
 
+impl Dup for Body {
+    fn copy(&self, alloc: Global) -> Result<Body, NoMemory> {
+        match self {
+            Body::Independent(ops) => Ok(Body::Independent(ops.copy(alloc)?)),
+            Body::Prelim(locks) => Ok(Body::Prelim(locks.copy(alloc)?)),
+            Body::Commit(keys, writes) => Ok(Body::Commit(keys.copy(alloc)?, writes.copy(alloc)?)),
+            Body::Abort(keys) => Ok(Body::Abort(keys.copy(alloc)?)),
+        }
+    }
+}
+
+impl Same for Body {
+    fn same(&self, other: &Body) -> bool {
+        match (self, other) {
+            (Body::Independent(some), Body::Independent(others)) => some.same(others),
+            (Body::Prelim(some), Body::Prelim(others)) => some.same(others),
+            (Body::Commit(keys, writes), Body::Commit(others, rest)) => keys.same(others)
+                && writes.same(rest),
+            (Body::Abort(some), Body::Abort(others)) => some.same(others),
+            _ => false,
+        }
+    }
+}
+
 trait Keyed {
     ghost key_in: { Self → Key };
 
@@ -89,7 +113,18 @@ impl Keyed for Lock {
 }
 
 /// The shards of the body's operations, locks or keys, ascending, each once.
+#[tactic(auto, using(crate::proofs::BodyLaws::participant_laws))]
 pub fn participants(alloc: Global, body: &Body) -> Result<Row<ShardId>, NoMemory>
+    ensures exact { IfOk result (λ shards. shards ≡ participants_of body.now) }
+    ensures ascend { IfOk result (λ shards. IsTrue (ascends_from None shards)) }
+    ensures named { IfOk result (λ shards. (shard : ShardId) → has_shard shards shard ≡ any_on (keys_of body.now) shard) }
+    ensures few { IfOk result (λ shards. IsTrue (body_has_size body.now) → IsTrue (is_few shards)) }
+{
+    let shards = shards_of_body(alloc, body)?;
+    Ok(shards)
+}
+
+fn shards_of_body(alloc: Global, body: &Body) -> Result<Row<ShardId>, NoMemory>
     ensures { IfOk result (λ shards. shards ≡ participants_of body.now) }
 {
     match body {

@@ -25,3 +25,6 @@ pub use operation::apply_op;
 pub use packet::Packet;
 pub use plan::{Guard, How, Plan, PlanFault, Setting, Write};
 pub use txn::Txn;
+
+#[cfg(test)]
+mod tests;

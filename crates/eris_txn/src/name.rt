@@ -7,6 +7,8 @@ ghost use Rattle.std.proofs.lemmas.Cmp.{nat_list_cmp_total, nat_list_eq_equiv};
 ghost use lib.Pointwise.{pointwise};
 ghost use Rattle.eris_txn.specs.Names.{is_name, is_name_byte};
 
+use eris_base::{Dup, NoMemory, Same};
+use std::alloc::Global;
 use std::cmp::Ordering;
 use std::marker::Model;
 
@@ -93,6 +95,18 @@ impl Ord for Name {
 
     fn cmp(&self, other: &Name) -> Ordering {
         self.bytes().cmp(other.bytes())
+    }
+}
+
+impl Dup for Name {
+    fn copy(&self, _: Global) -> Result<Name, NoMemory> {
+        Ok(*self)
+    }
+}
+
+impl Same for Name {
+    fn same(&self, other: &Name) -> bool {
+        self == other
     }
 }
 

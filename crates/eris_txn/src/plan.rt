@@ -1,11 +1,12 @@
-ghost use Rattle.std.specs.Prelude.{◌≡◌, Some, None, IfOk, IfErr, nat_le, unwrap_or};
+ghost use Rattle.std.specs.Prelude.{◌≡◌, ◌≤◌, Some, None, IfOk, IfErr, IfSome, IsTrue, length, nat_le, unwrap_or};
 ghost use Rattle.std.specs.List.{list_all};
 ghost use Rattle.eris_txn.specs.Plans.{value_in, guards_hold, set_by, writes_from, writes_of, locks_in, locks_of, mode_of};
+ghost use Rattle.eris_txn.specs.Sizes.{is_few};
 ghost use Rattle.eris_txn.specs.PlanFaults.{is_among, repeats, sets, sets_twice, all_locked, plan_fault};
 
 use crate::key::Key;
 use crate::lock::{Lock, Mode};
-use eris_base::{NoMemory, Row};
+use eris_base::{Dup, NoMemory, Row, Same};
 use std::alloc::Global;
 use std::marker::Model;
 use thiserror::Error;
@@ -139,10 +140,13 @@ impl Plan {
     }
 
     /// The plan's keys in order, `Exclusive` exactly where a setting names the key.
+    #[tactic(auto, using(crate::proofs::PlanSizes::plan_sizes))]
     pub fn locks(&self) -> Result<Row<Lock>, NoMemory>
-        ensures { IfOk result (λ locks. locks ≡ locks_of self.now) }
+        ensures exact { IfOk result (λ locks. locks ≡ locks_of self.now) }
+        ensures few { IfOk result (λ locks. IsTrue (is_few locks)) }
     {
-        lock_keys(self.alloc, self.keys.as_slice(), self.settings.as_slice())
+        let locks = lock_keys(self.alloc, self.keys.as_slice(), self.settings.as_slice())?;
+        Ok(locks)
     }
 
     /// What the plan writes where its keys have these values, which stand in the order of the keys; None
@@ -150,17 +154,83 @@ impl Plan {
     /// value below the guard's `least`, where absent counts as 0. Else there is one write for each
     /// setting, in order.
     pub fn writes(&self, values: &[Option<u64>]) -> Result<Option<Row<Write>>, NoMemory>
-        ensures { IfOk result (λ writes. writes ≡ writes_of self.now (value_in self.now.keys values.now)) }
+        ensures exact { IfOk result (λ writes. writes ≡ writes_of self.now (value_in self.now.keys values.now)) }
+        ensures few { IfOk result (λ found. IfSome found (λ writes. length writes ≤ 32)) }
     {
-        if !guards_hold(self.guards.as_slice(), self.keys.as_slice(), values) {
+        let keys = self.keys.as_slice();
+        let settings = self.settings.as_slice();
+        if !guards_hold(self.guards.as_slice(), keys, values) {
             return Ok(None);
         }
-        Ok(Some(writes_from(
-            self.alloc,
-            self.settings.as_slice(),
-            self.keys.as_slice(),
-            values,
-        )?))
+        let writes = writes_from(self.alloc, settings, keys, values)?;
+        Ok(Some(writes))
+    }
+}
+
+impl Dup for Guard {
+    fn copy(&self, _: Global) -> Result<Guard, NoMemory> {
+        Ok(*self)
+    }
+}
+
+impl Same for Guard {
+    fn same(&self, other: &Guard) -> bool {
+        self == other
+    }
+}
+
+impl Dup for How {
+    fn copy(&self, _: Global) -> Result<How, NoMemory> {
+        Ok(*self)
+    }
+}
+
+impl Same for How {
+    fn same(&self, other: &How) -> bool {
+        self == other
+    }
+}
+
+impl Dup for Setting {
+    fn copy(&self, _: Global) -> Result<Setting, NoMemory> {
+        Ok(*self)
+    }
+}
+
+impl Same for Setting {
+    fn same(&self, other: &Setting) -> bool {
+        self == other
+    }
+}
+
+impl Dup for Write {
+    fn copy(&self, _: Global) -> Result<Write, NoMemory> {
+        Ok(*self)
+    }
+}
+
+impl Same for Write {
+    fn same(&self, other: &Write) -> bool {
+        self == other
+    }
+}
+
+impl Dup for Plan {
+    fn copy(&self, alloc: Global) -> Result<Plan, NoMemory> {
+        Ok(Plan {
+            alloc,
+            keys: self.keys.copy(alloc)?,
+            guards: self.guards.copy(alloc)?,
+            settings: self.settings.copy(alloc)?,
+        })
+    }
+}
+
+impl Same for Plan {
+    fn same(&self, other: &Plan) -> bool {
+        self.keys.same(&other.keys)
+            && self.guards.same(&other.guards)
+            && self.settings.same(&other.settings)
     }
 }
 
