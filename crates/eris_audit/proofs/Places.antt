@@ -36,3 +36,17 @@ EachAfter-from P before (x ∷ xs) places = (
   EachAfter-from P (before ++ x ∷ []) xs (λ front back y split.
       subst (λ l. P l y) (sym (append_assoc before (x ∷ []) front)) (places (x ∷ front) back y (ap (λ l. x ∷ l) split))),
 )
+
+-- A list that grows at its end.
+
+pub Each-append : {X : Type 0} (P : X → Type 0) (xs ys : List X) → Each P xs → Each P ys → Each P (xs ++ ys)
+Each-append P [] ys each more = more
+Each-append P (x ∷ xs) ys each more = (each.0, Each-append P xs ys each.1 more)
+
+pub EachAfter-append : {X : Type 0} (P : List X → X → Type 0) (before xs ys : List X)
+    → EachAfter P before xs → EachAfter P (before ++ xs) ys → EachAfter P before (xs ++ ys)
+EachAfter-append P before [] ys each more = subst (λ l. EachAfter P l ys) (append-nil before) more
+EachAfter-append P before (x ∷ xs) ys each more = (
+  each.0,
+  EachAfter-append P (before ++ x ∷ []) xs ys each.1 (subst (λ l. EachAfter P l ys) (sym (append_assoc before (x ∷ []) xs)) more),
+)

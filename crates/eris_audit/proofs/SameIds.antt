@@ -1,5 +1,6 @@
 use Rattle.std.proofs.Common.{◌≡◌, true, false, refl, ap, ◌∙◌, ◌⊎◌, inl, inr}
 use Rattle.std.proofs.lemmas.Bool.{and_parts, and_from, eq-eqb, eqb-true, cases_Bool, both_ways}
+use Rattle.eris_base.specs.contracts.ids.TxnIdPartialEq.TheImpl as derived
 use Rattle.eris_base.specs.declared.ids.TxnId.{TxnId}
 use Rattle.eris_audit.specs.TxnIds.{same_id}
 
@@ -22,3 +23,8 @@ same_id-turned some other test = by_test (cases_Bool (same_id other some))
     by_test : ((same_id other some ≡ true) ⊎ (same_id other some ≡ false)) → same_id other some ≡ false
     by_test (inl same) = absurd (both_ways _ test (ap (same_id some) (same_id-true other some same) ∙ same_id-refl some))
     by_test (inr apart) = apart
+
+-- the comparison that ids derive is this test
+pub same_id-derived : (some other : TxnId) → derived.eq-value.it some other ≡ same_id some other
+unfolding same_id
+same_id-derived some other = refl
