@@ -23,7 +23,7 @@ counts_by w a h s n course = record {
   sent = omega (arith, course.messages, course.counted, length-append a (h ++ (s ++ n)), length-append h (s ++ n), length-append s n, length-append a (h ++ s), length-append h s, length-append a h);
   stamped = omega (arith, ap length course.stamps, length-packets (a ++ (h ++ s)), course.counted, length-append a (h ++ (s ++ n)), length-append h (s ++ n), length-append s n, length-append a (h ++ s), length-append h s);
   held = omega (arith, ap length course.holds, length-packets (a ++ h), course.counted, length-append a (h ++ (s ++ n)), length-append h (s ++ n), length-append a h);
-  delivered = course.delivered
+  delivered = course.delivered;
 }
 
 pub counts_of : (w : WorldState) → IsOfRun w → Counts w
@@ -34,10 +34,10 @@ counts_of w of_run =
 pub order_of_run : (w : WorldState) → IsOfRun w → order w ≡ w.replica.held
 order_of_run w of_run = by_goes w (run_goes of_run.events w of_run.leads)
   where
-  by_goes : (w : WorldState) → Goes w → order w ≡ w.replica.held
-  by_goes w goes =
-      let jobs : List Job = goes.answered ++ goes.held in
-      let numbered : NumberedFrom 1 (jobs ++ goes.stamped) =
-          let P : List Job → Type 0 = λ list. NumberedFrom 1 list in
-          numbered_front 1 (jobs ++ goes.stamped) goes.asked (subst P (simp append_assoc) goes.course.numbered) in
-      order_is w jobs goes.stamped numbered (goes.course.stamps ∙ ap packets (simp append_assoc)) goes.course.holds ∙ sym goes.course.holds
+    by_goes : (w : WorldState) → Goes w → order w ≡ w.replica.held
+    by_goes w goes =
+        let jobs : List Job = goes.answered ++ goes.held in
+        let numbered : NumberedFrom 1 (jobs ++ goes.stamped) =
+        let P : List Job → Type 0 = λ list. NumberedFrom 1 list in
+        numbered_front 1 (jobs ++ goes.stamped) goes.asked (subst P (simp append_assoc) goes.course.numbered) in
+        order_is w jobs goes.stamped numbered (goes.course.stamps ∙ ap packets (simp append_assoc)) goes.course.holds ∙ sym goes.course.holds

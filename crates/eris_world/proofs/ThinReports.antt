@@ -18,7 +18,7 @@ report_by w packets = record {
   target = record { 0 = 0 };
   found = 0;
   dropped = 0;
-  sent = length w.sent
+  sent = length w.sent;
 }
 
 pub report_is : (w : WorldState) → IsOfRun w → report_by w w.replica.held ≡ report_of w

@@ -16,7 +16,7 @@ replica_line count = record {
   view = record { 0 = 0 };
   held = count;
   length = count;
-  settled = 0
+  settled = 0;
 }
 
 abbrev pub report_of : WorldState → Report
@@ -29,5 +29,5 @@ report_of w = record {
   target = record { 0 = 0 };
   found = 0;
   dropped = 0;
-  sent = length w.sent
+  sent = length w.sent;
 }

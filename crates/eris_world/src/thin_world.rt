@@ -1,4 +1,4 @@
-ghost use Rattle.std.specs.Prelude.{◌≡◌, ◌≢◌, ◌+◌, ◌*◌, ◌<◌, ◌^◌, [], true, false, drop, Ok, Err, Some, IfOk, IfErr, OnOk, OnErr, is_some, ◌≤◌, ◌∷◌, length, map};
+ghost use Rattle.std.specs.Prelude.{◌≡◌, ◌≢◌, ◌+◌, ◌*◌, ◌<◌, ◌^◌, [], true, false, drop, Ok, Err, Some, IfOk, IfErr, OnOk, OnErr, is_some, nat_lt, ◌≤◌, ◌∷◌, length, map};
 ghost use Rattle.eris_world.specs.ThinWaiting.{first_of};
 ghost use Rattle.eris_world.specs.ThinWorld.{start, submitted, flowed, are_on_shard, after, waiting};
 ghost use Rattle.eris_world.specs.ThinReport.{report_of, replica_line};
@@ -39,33 +39,29 @@ impl Model for World {
 
     ghost Value = { KeptWorld };
 
-    ghost view = {
-        λ w. record {
-            state = record {
-                sequencer = record { stamped = w.stamped };
-                replica = record { held = w.held };
-                client = record { submitted = w.submitted };
-                sent = w.sent;
-                delivered = w.delivered;
-                history = w.history
-            };
-            spent = w.spent
-        }
-    };
+    ghost view = { λ w. record {
+      state = record {
+        sequencer = record { stamped = w.stamped };
+        replica = record { held = w.held };
+        client = record { submitted = w.submitted };
+        sent = w.sent;
+        delivered = w.delivered;
+        history = w.history;
+      };
+      spent = w.spent;
+    } };
 
-    ghost invariant = {
-        λ w. w.spent ≡ false
-            → IsOfRun (record {
-                sequencer = record { stamped = w.stamped };
-                replica = record { held = w.held };
-                client = record { submitted = w.submitted };
-                sent = w.sent;
-                delivered = w.delivered;
-                history = w.history
-            })
-            × (values_of w.values ≡ values_after w.held no_values)
-            × (3 * w.submitted < 2 ^ 32)
-    };
+    ghost invariant = { λ w. w.spent ≡ false
+        → IsOfRun (record {
+          sequencer = record { stamped = w.stamped };
+          replica = record { held = w.held };
+          client = record { submitted = w.submitted };
+          sent = w.sent;
+          delivered = w.delivered;
+          history = w.history;
+        })
+        × (values_of w.values ≡ values_after w.held no_values)
+        × (3 * w.submitted < 2 ^ 32) };
 }
 
 impl World {
@@ -93,6 +89,13 @@ impl World {
         self.spent
     }
 
+    /// Whether one more submission can be counted; [`World::apply`] asks for it.
+    pub fn has_room(&self) -> bool
+        ensures { result ≡ nat_lt (3 * (self.now.state.client.submitted + 1)) (2 ^ 32) }
+    {
+        3 * (self.submitted as u64 + 1) < 1 << 32
+    }
+
     /// One event. `NoSuchClient` exactly where a submission's client isn't in the config, else `NoSuchShard`
     /// exactly where one of its keys is of a shard that isn't; the world is then as before. After `NoMemory`
     /// it is spent.
@@ -100,10 +103,8 @@ impl World {
         requires unspent { self.old.spent ≡ false }
         requires room { 3 * (self.old.state.client.submitted + 1) < 2 ^ 32 }
         ensures ok { OnOk result ((after self.old.state event ≡ Ok self.new.state) × (self.new.spent ≡ false)) }
-        ensures refused {
-            IfErr result (λ refusal. refusal ≢ Refusal.NoMemory
-                → (after self.old.state event ≡ Err refusal) × (self.new ≡ self.old))
-        }
+        ensures refused { IfErr result (λ refusal. refusal ≢ Refusal.NoMemory
+            → (after self.old.state event ≡ Err refusal) × (self.new ≡ self.old)) }
         ensures no_memory { result ≡ Err Refusal.NoMemory → self.new.spent ≡ true }
     {
         match event {
@@ -185,7 +186,14 @@ impl World {
     {
         self.spent = true;
         self.delivered += 1;
-        stamp(self.alloc, &mut self.stamped, &mut self.sent, asker, id, body)?;
+        stamp(
+            self.alloc,
+            &mut self.stamped,
+            &mut self.sent,
+            asker,
+            id,
+            body,
+        )?;
         self.spent = false;
         Ok(())
     }
@@ -198,7 +206,13 @@ impl World {
     {
         self.spent = true;
         self.delivered += 1;
-        hold(self.alloc, &mut self.held, &mut self.values, &mut self.sent, packet)?;
+        hold(
+            self.alloc,
+            &mut self.held,
+            &mut self.values,
+            &mut self.sent,
+            packet,
+        )?;
         self.spent = false;
         Ok(())
     }
@@ -229,7 +243,8 @@ impl World {
             number: self.submitted + 1,
         };
         let asked = ops.copy(self.alloc)?;
-        self.history.push(HistoryEvent::Submit(id, Txn::Whole(ops)))?;
+        self.history
+            .push(HistoryEvent::Submit(id, Txn::Whole(ops)))?;
         self.sent.push(Message::Ask {
             asker: ClientId(0),
             id,

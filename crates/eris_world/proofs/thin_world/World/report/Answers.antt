@@ -22,4 +22,4 @@ returns c =
     let unspent : c.self.inside.spent ≡ false = ap (λ kept. kept.spent) c.self.view_is ∙ c.requires in
     let kept : _ = c.self.invariant unspent in
     rw (← c.self.view_is, c.the_config.ensures, c.in_ok-copy.ensures, c.in_ok-lines_of_packets.ensures, c.as_slice.ensures, c.in_ok-replica_lines.ensures, c.len.ensures, c.len-held.ensures)
-      (report_is _ kept.0)
+    (report_is _ kept.0)
