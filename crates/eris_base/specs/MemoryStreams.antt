@@ -16,7 +16,7 @@ next_fails calls = list_any (λ number. number == one_more calls.made) calls.fai
 unfoldable pub after_next : CallsValue → CallsValue
 after_next calls = record calls {
   made = one_more calls.made;
-  faults = if next_fails calls then one_more calls.faults else calls.faults
+  faults = if next_fails calls then one_more calls.faults else calls.faults;
 }
 
 -- a source in memory: the bytes still to come, at most how many it gives at a read, and its reads

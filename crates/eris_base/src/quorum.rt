@@ -36,5 +36,5 @@ fn count_different(replicas: &[ReplicaId]) -> usize
 fn lists(replicas: &[ReplicaId], replica: ReplicaId) -> bool
     ensures { result ≡ has_replica replicas.now replica }
 {
-    replicas.iter().any(|other| *other == replica)
+    replicas.iter().any(|other| replica == *other)
 }
