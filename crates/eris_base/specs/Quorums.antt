@@ -7,9 +7,11 @@ use Rattle.eris_base.specs.declared.ids.View.{View}
 abbrev pub learner_of : View → ℕ → ReplicaId
 learner_of view f = record { 0 = view.0 % (2 * f + 1) }
 
+-- the two are one replica
 abbrev pub same_replica : ReplicaId → ReplicaId → Bool
 same_replica one another = one.0 == another.0
 
+-- the replica is listed
 abbrev pub has_replica : List ReplicaId → ReplicaId → Bool
 has_replica replicas replica = is_member same_replica replicas replica
 
