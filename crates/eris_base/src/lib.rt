@@ -2,6 +2,7 @@
 //! shards ascend, rows of items, copies, and sources and sinks of bytes whose faults are counted.
 #![tactic(auto)]
 
+mod calls;
 mod config;
 mod copying;
 mod ids;

@@ -1,9 +1,10 @@
-ghost use Rattle.std.specs.Prelude.{◌≡◌, ◌+◌, ◌<◌, ◌≤◌, [], ◌∷◌, Some, length, min, drop, not, is_ok, IfOk, OnOk, OnErr, MatchResult};
+ghost use Rattle.std.specs.Prelude.{◌≡◌, ◌+◌, ◌<◌, ◌≤◌, [], Some, length, min, not, is_ok, IfOk, OnOk, MatchResult};
 ghost use Rattle.std.specs.Io.{ReadsAtMost};
 ghost use Rattle.std.specs.Io.KnownBytes.{ReadConsumes, WriteAppends};
-ghost use Rattle.eris_base.specs.Faults.{one_more, HasCause};
-ghost use Rattle.eris_base.specs.MemoryStreams.{is_listed};
+ghost use Rattle.eris_base.specs.Faults.{HasCause};
+ghost use Rattle.eris_base.specs.MemoryStreams.{next_fails, after_next};
 
+use crate::calls::Calls;
 use crate::no_memory::NoMemory;
 use crate::pieces::{after, give};
 use crate::row::Row;
@@ -11,15 +12,13 @@ use crate::stream::{Failed, Sink, Source};
 use std::alloc::Global;
 use std::marker::Model;
 
-/// A source over bytes in memory, which gives them in small pieces and fails at chosen calls.
+/// A source over bytes in memory, which gives them in small pieces and fails at chosen reads.
 #[derive(Debug, Drop)]
 pub struct MemSource {
     bytes: Row<u8>,
     at: usize,
     chunk: usize,
-    failing: Row<u32>,
-    calls: u64,
-    faults: u64,
+    reads: Calls,
 }
 
 impl Model for MemSource {
@@ -28,17 +27,18 @@ impl Model for MemSource {
 
     ghost Value = { MemSourceValue };
 
-    ghost view = { λ s. record { left = drop s.at s.bytes; chunk = s.chunk; failing = s.failing; calls = s.calls; faults = s.faults } };
+    ghost view = { λ s. record { left = drop s.at s.bytes; chunk = s.chunk; reads = s.reads } };
 
     ghost invariant = { λ s. (s.at ≤ length s.bytes) × (0 < s.chunk) };
 }
 
 impl MemSource {
-    /// A source that gives at most `chunk` of the bytes at a call. The calls whose numbers, from 1,
-    /// stand in `failing` fail. It takes no memory.
+    /// A source of the bytes, which gives at most `chunk` of them at a read. The reads whose numbers,
+    /// from 1, stand in `failing` fail. It takes no memory.
     pub fn new(bytes: Row<u8>, chunk: usize, failing: Row<u32>) -> MemSource
         requires { 0 < chunk }
-        ensures exact { result ≡ record { left = bytes; chunk = chunk; failing = failing; calls = 0; faults = 0 } }
+        ensures exact { result
+            ≡ record { left = bytes; chunk = chunk; reads = record { failing = failing; made = 0; faults = 0 } } }
         ensures left { ⟦<MemSource as Source>⟧.left result ≡ Some bytes }
         ensures faults { ⟦<MemSource as Source>⟧.faults result ≡ 0 }
     {
@@ -46,13 +46,11 @@ impl MemSource {
             bytes,
             at: 0,
             chunk,
-            failing,
-            calls: 0,
-            faults: 0,
+            reads: Calls::new(failing),
         }
     }
 
-    /// The bytes still to come.
+    /// The bytes still to come. It takes no memory.
     pub fn left(&self) -> &[u8]
         ensures { result.now ≡ self.now.left }
     {
@@ -63,24 +61,19 @@ impl MemSource {
 impl Source for MemSource {
     ghost left = { λ s. Some s.left };
 
-    ghost faults = { λ s. s.faults };
+    ghost faults = { λ s. s.reads.faults };
 
     fn read(&mut self, buf: &mut [u8]) -> Result<usize, Failed>
         ensures bound { ReadsAtMost result buf.new }
         ensures bytes { ReadConsumes (Some self.old.left) (Some self.new.left) result buf.new }
-        ensures cause { HasCause self.old.faults self.new.faults result }
+        ensures cause { HasCause self.old.reads.faults self.new.reads.faults result }
 
-        // The call fails exactly where its number is listed; else it gives as much as it may.
-        ensures failing { is_ok result ≡ not (is_listed self.old.failing (one_more self.old.calls)) }
+        // The read fails exactly where its number is listed; else it gives as much as it may.
+        ensures failing { is_ok result ≡ not (next_fails self.old.reads) }
         ensures count { IfOk result (λ n. n ≡ min (min (length buf.new) self.old.chunk) (length self.old.left)) }
-        ensures ok { IfOk result (λ n. self.new
-            ≡ record self.old { left = drop n self.old.left; calls = one_more self.old.calls }) }
-        ensures err { OnErr result (self.new
-            ≡ record self.old { calls = one_more self.old.calls; faults = one_more self.old.faults }) }
+        ensures counted { self.new ≡ record self.old { left = self.new.left; reads = after_next self.old.reads } }
     {
-        self.calls = self.calls.saturating_add(1);
-        if lists(self.failing.as_slice(), self.calls) {
-            self.faults = self.faults.saturating_add(1);
+        if self.reads.fails() {
             return Err(Failed);
         }
         let count = give(after(self.bytes.as_slice(), self.at), buf, self.chunk);
@@ -89,14 +82,13 @@ impl Source for MemSource {
     }
 }
 
-/// A sink into memory, which takes bytes in small pieces and fails at chosen writes.
+/// A sink in memory, which takes bytes in small pieces and fails at chosen writes. It takes its memory
+/// in `reserve`.
 #[derive(Debug, Drop)]
 pub struct MemSink {
     bytes: Vec<u8>,
     chunk: usize,
-    failing: Row<u32>,
-    calls: u64,
-    faults: u64,
+    writes: Calls,
 }
 
 impl Model for MemSink {
@@ -105,7 +97,7 @@ impl Model for MemSink {
 
     ghost Value = { MemSinkValue };
 
-    ghost view = { λ s. record { taken = s.bytes.items; spare = vec_capacity s.bytes - vec_len s.bytes; chunk = s.chunk; failing = s.failing; calls = s.calls; faults = s.faults } };
+    ghost view = { λ s. record { taken = s.bytes.items; spare = vec_capacity s.bytes - vec_len s.bytes; chunk = s.chunk; writes = s.writes } };
 
     ghost invariant = { λ s. 0 < s.chunk };
 }
@@ -115,22 +107,19 @@ impl MemSink {
     /// `failing` fail. It takes no memory.
     pub fn new(alloc: Global, chunk: usize, failing: Row<u32>) -> MemSink
         requires { 0 < chunk }
+        ensures exact { result
+            ≡ record { taken = []; spare = result.spare; chunk = chunk; writes = record { failing = failing; made = 0; faults = 0 } } }
         ensures taken { ⟦<MemSink as Sink>⟧.taken result ≡ Some [] }
         ensures faults { ⟦<MemSink as Sink>⟧.faults result ≡ 0 }
-        ensures chunk { result.chunk ≡ chunk }
-        ensures failing { result.failing ≡ failing }
-        ensures calls { result.calls ≡ 0 }
     {
         MemSink {
             bytes: Vec::new(alloc),
             chunk,
-            failing,
-            calls: 0,
-            faults: 0,
+            writes: Calls::new(failing),
         }
     }
 
-    /// The bytes taken so far.
+    /// The bytes taken so far. It takes no memory.
     pub fn taken(&self) -> &[u8]
         ensures { result.now ≡ self.now.taken }
     {
@@ -141,15 +130,13 @@ impl MemSink {
 impl Sink for MemSink {
     ghost taken = { λ s. Some s.taken };
 
-    ghost faults = { λ s. s.faults };
+    ghost faults = { λ s. s.writes.faults };
 
     ghost spare = { λ s. s.spare };
 
     fn reserve(&mut self, more: usize) -> Result<(), NoMemory>
         ensures room { OnOk result (more ≤ self.new.spare) }
-        ensures taken { Some self.new.taken ≡ Some self.old.taken }
-        ensures faults { self.new.faults ≡ self.old.faults }
-        ensures rest { self.new ≡ record self.old { spare = self.new.spare } }
+        ensures stays { self.new ≡ record self.old { spare = self.new.spare } }
     {
         self.bytes.reserve(more)?;
         Ok(())
@@ -161,29 +148,19 @@ impl Sink for MemSink {
         ensures progress { IfOk result (λ n. 0 < length bytes.now → 0 < n) }
         ensures bytes { WriteAppends (Some self.old.taken) (Some self.new.taken) result bytes.now }
         ensures spare { MatchResult result (λ n. self.old.spare ≤ self.new.spare + n) (λ _. self.new.spare ≡ self.old.spare) }
-        ensures cause { HasCause self.old.faults self.new.faults result }
+        ensures cause { HasCause self.old.writes.faults self.new.writes.faults result }
 
         // The write fails exactly where its number is listed; else it takes as much as it may.
-        ensures failing { is_ok result ≡ not (is_listed self.old.failing (one_more self.old.calls)) }
+        ensures failing { is_ok result ≡ not (next_fails self.old.writes) }
         ensures count { IfOk result (λ n. n ≡ min (length bytes.now) self.old.chunk) }
-        ensures ok { OnOk result (self.new
-            ≡ record self.old { taken = self.new.taken; spare = self.new.spare; calls = one_more self.old.calls }) }
-        ensures err { OnErr result (self.new
-            ≡ record self.old { calls = one_more self.old.calls; faults = one_more self.old.faults }) }
+        ensures counted { self.new
+            ≡ record self.old { taken = self.new.taken; spare = self.new.spare; writes = after_next self.old.writes } }
     {
-        self.calls = self.calls.saturating_add(1);
-        if lists(self.failing.as_slice(), self.calls) {
-            self.faults = self.faults.saturating_add(1);
+        if self.writes.fails() {
             return Err(Failed);
         }
         let count = bytes.len().min(self.chunk);
         self.bytes.extend_from_slice(&bytes[..count]).unwrap();
         Ok(count)
     }
-}
-
-fn lists(numbers: &[u32], number: u64) -> bool
-    ensures { result ≡ is_listed numbers.now number }
-{
-    numbers.iter().any(|other| u64::from(*other) == number)
 }

@@ -43,6 +43,10 @@ pub trait Sink {
     ghost spare: { Self → ℕ };
 
     /// Makes room for `more` bytes, and changes nothing else.
+    ///
+    /// # Errors
+    ///
+    /// [`NoMemory`] where an allocation was refused.
     fn reserve(&mut self, more: usize) -> Result<(), NoMemory>
         ensures room { OnOk result (more ≤ spare self.new) }
         ensures taken { taken self.new ≡ taken self.old }

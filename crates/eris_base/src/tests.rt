@@ -2,12 +2,12 @@ ghost use Rattle.std.specs.Prelude.{◌≡◌, IfOk};
 
 use crate::{
     ClientId, Config, ConfigFault, Dup, Epoch, Failed, MemSink, MemSource, NoMemory, Node, Phase,
-    Place, ReadEnd, ReplicaId, Row, Same, ShardId, Sink, Source, Stamp, StdSink, StdSource,
-    SureSink, SureSource, TxnId, View, is_quorum, learner, read_all, write_all,
+    Place, ReadEnd, ReplicaId, Row, Same, ShardId, Sink, Stamp, StdSink, StdSource, SureSink,
+    SureSource, TxnId, View, is_quorum, learner, read_all, write_all,
 };
 use std::alloc::Global;
 use std::io;
-use std::io::{ErrorKind, Read};
+use std::io::{ErrorKind, Read, Write};
 use std::test::Fail;
 
 fn row_of<T: Copy>(alloc: Global, items: &[T]) -> Result<Row<T>, NoMemory>
@@ -18,53 +18,84 @@ fn row_of<T: Copy>(alloc: Global, items: &[T]) -> Result<Row<T>, NoMemory>
     Ok(row)
 }
 
+// What reading five bytes, two at a call, comes to, and how many bytes are left after it.
+fn read_five(
+    alloc: Global,
+    failing: u32,
+    limit: usize,
+) -> Result<(Option<ReadEnd>, usize), NoMemory> {
+    let bytes = row_of(alloc, "abcde".as_bytes())?;
+    let mut source = MemSource::new(bytes, 2, row_of(alloc, &[failing])?);
+    let end = read_all(alloc, &mut source, limit).err();
+    Ok((end, source.left().len()))
+}
+
 #[test]
-fn streams_in_memory_go_in_pieces_and_fail_where_told(rt: HostRuntime) -> Result<(), Fail> {
-    let alloc = rt.alloc();
-    let text = "abcde".as_bytes();
+fn reading_ends_at_the_end_past_the_limit_or_at_a_failing_call(
+    rt: HostRuntime,
+) -> Result<(), Fail> {
     for (failing, limit, end, left) in [
-        (9, 5, None, ""),
-        (9, 6, None, ""),
-        (9, 4, Some(ReadEnd::Long), ""),
-        (9, 2, Some(ReadEnd::Long), "de"),
-        (1, 5, Some(ReadEnd::Fault), "abcde"),
-        (2, 5, Some(ReadEnd::Fault), "cde"),
-        (4, 5, Some(ReadEnd::Fault), ""),
+        (9, 5, None, 0),
+        (9, 6, None, 0),
+        (9, 4, Some(ReadEnd::Long), 0),
+        (9, 2, Some(ReadEnd::Long), 2),
+        (1, 5, Some(ReadEnd::Fault), 5),
+        (2, 5, Some(ReadEnd::Fault), 3),
+        (4, 5, Some(ReadEnd::Fault), 0),
     ] {
-        let mut source = MemSource::new(row_of(alloc, text)?, 2, row_of(alloc, &[failing])?);
-        let outcome = read_all(alloc, &mut source, limit);
-        assert_eq!(rt;
-            source.left(),
-            left.as_bytes(),
-            "failing {failing} limit {limit}"
-        );
-        match outcome {
-            Ok(bytes) => {
-                assert_eq!(rt; end, None, "limit {limit}");
-                assert_eq!(rt; bytes.as_slice(), text);
-            }
-            Err(cause) => assert_eq!(rt; end, Some(cause), "failing {failing} limit {limit}"),
-        }
+        let found = read_five(rt.alloc(), failing, limit)?;
+        assert_eq!(rt; found, (end, left), "failing {failing} limit {limit}");
     }
-    let text = "eris 1 1 0 1\n".as_bytes();
+    Ok(())
+}
+
+// A sink that was given a text, five bytes at a write.
+fn sink_given(alloc: Global, text: &[u8], failing: u32) -> Result<MemSink, NoMemory> {
+    let mut sink = MemSink::new(alloc, 5, row_of(alloc, &[failing])?);
+    sink.reserve(text.len())?;
+    let _ = write_all(&mut sink, text);
+    Ok(sink)
+}
+
+#[test]
+fn writing_ends_at_a_failing_call(rt: HostRuntime) -> Result<(), Fail> {
     for (failing, taken) in [
         (9, "eris 1 1 0 1\n"),
         (1, ""),
         (2, "eris "),
         (3, "eris 1 1 0"),
     ] {
-        let mut sink = MemSink::new(alloc, 5, row_of(alloc, &[failing])?);
-        sink.reserve(text.len())?;
-        let outcome = write_all(&mut sink, text);
-        assert_eq!(rt; outcome.is_ok(), failing == 9, "failing {failing}");
+        let sink = sink_given(rt.alloc(), "eris 1 1 0 1\n".as_bytes(), failing)?;
         assert_eq!(rt; sink.taken(), taken.as_bytes(), "failing {failing}");
     }
     Ok(())
 }
 
-fn copies_equal<T: Dup + Same>(alloc: Global, item: T) -> Result<bool, NoMemory> {
-    let copy = item.copy(alloc)?;
-    Ok(copy.same(&item))
+// Passes a text on through a source and a sink that never fail: that neither does, nor that the text is too
+// long, is proved.
+fn pass_on(alloc: Global, text: &[u8]) -> Result<SureSink, NoMemory>
+    ensures { IfOk result (λ sink. sink.taken ≡ text.now) }
+{
+    let mut source = SureSource::new(row_of(alloc, text)?);
+    let bytes = match read_all(alloc, &mut source, text.len()) {
+        Ok(bytes) => bytes,
+        Err(ReadEnd::NoMemory) => return Err(NoMemory),
+        Err(_) => unreachable!(),
+    };
+    let mut sink = SureSink::new(alloc);
+    sink.reserve(bytes.len())?;
+    match write_all(&mut sink, bytes.as_slice()) {
+        Ok(()) => Ok(sink),
+        Err(Failed) => unreachable!(),
+    }
+}
+
+#[test]
+fn sure_streams_pass_a_text_on(rt: HostRuntime) -> Result<(), Fail> {
+    let text = "eris".as_bytes();
+    assert_eq!(rt; pass_on(rt.alloc(), text)?.taken(), text);
+    assert_eq!(rt; SureSource::new(row_of(rt.alloc(), text)?).left(), text);
+    Ok(())
 }
 
 #[derive(Drop)]
@@ -77,42 +108,40 @@ impl Read for Broken {
 }
 
 #[test]
-fn sure_and_standard_streams_pass_bytes_on(rt: HostRuntime) -> Result<(), Fail> {
-    let alloc = rt.alloc();
+fn a_standard_reader_is_read_to_its_end_or_its_error(rt: HostRuntime) -> Result<(), Fail> {
+    let mut whole = StdSource::new("eris".as_bytes());
+    assert_eq!(rt;
+        read_all(rt.alloc(), &mut whole, 4)?.as_slice(),
+        "eris".as_bytes()
+    );
+    let mut broken = StdSource::new("er".as_bytes().chain(Broken));
+    assert_eq!(rt;
+        read_all(rt.alloc(), &mut broken, 4).err(),
+        Some(ReadEnd::Fault)
+    );
+    Ok(())
+}
+
+fn write_over<W: Write + Drop>(writer: W, text: &[u8]) -> Result<(), Failed> {
+    let mut sink = StdSink::new(writer);
+    let _ = sink.reserve(text.len());
+    write_all(&mut sink, text)
+}
+
+#[test]
+fn a_standard_writer_takes_all_or_fails(rt: HostRuntime) -> Result<(), Fail> {
     let text = "eris".as_bytes();
-
-    let mut source = SureSource::new(row_of(alloc, text)?);
-    assert_eq!(rt; source.left(), text);
-    assert_eq!(rt; read_all(alloc, &mut source, 4)?.as_slice(), text);
-    let mut sink = SureSink::new(alloc);
-    sink.reserve(4)?;
-    write_all(&mut sink, text)?;
-    assert_eq!(rt; sink.taken(), text);
-
-    let mut source = StdSource::new(text);
-    assert_eq!(rt; read_all(alloc, &mut source, 4)?.as_slice(), text);
-    let mut source = StdSource::new(text);
-    assert!(rt; matches!(read_all(alloc, &mut source, 3), Err(ReadEnd::Long)));
-    let mut source = StdSource::new(text.chain(Broken));
-    assert!(rt; matches!(read_all(alloc, &mut source, 9), Err(ReadEnd::Fault)));
-
-    let mut written = Vec::new(alloc);
-    let mut sink = StdSink::new(&mut written);
-    sink.reserve(4)?;
-    write_all(&mut sink, text)?;
-    drop(sink);
+    let mut written = Vec::new(rt.alloc());
+    write_over(&mut written, text)?;
     assert_eq!(rt; written.as_slice(), text);
     let mut room = [0; 3];
-    let mut sink = StdSink::new(room.as_mut_slice());
-    assert_eq!(rt; write_all(&mut sink, text), Err(Failed));
-    drop(sink);
+    assert_eq!(rt; write_over(room.as_mut_slice(), text), Err(Failed));
     assert_eq!(rt; room.as_slice(), "eri".as_bytes());
     Ok(())
 }
 
 #[test]
-fn values_answer_as_their_rules_say(rt: HostRuntime) -> Result<(), Fail> {
-    let alloc = rt.alloc();
+fn a_config_keeps_its_limits(rt: HostRuntime) -> Result<(), Fail> {
     for (shards, f, clients, fault) in [
         (1, 0, 1, None),
         (64, 3, 128, None),
@@ -122,49 +151,89 @@ fn values_answer_as_their_rules_say(rt: HostRuntime) -> Result<(), Fail> {
         (1, 0, 0, Some(ConfigFault::Clients)),
         (1, 0, 129, Some(ConfigFault::Clients)),
     ] {
-        match Config::new(shards, f, clients) {
-            Ok(config) => {
-                assert_eq!(rt; fault, None, "{shards} {f} {clients}");
-                assert_eq!(rt;
-                    (config.shards(), config.f(), config.clients()),
-                    (shards, f, clients)
-                );
-            }
-            Err(found) => assert_eq!(rt; fault, Some(found), "{shards} {f} {clients}"),
-        }
+        assert_eq!(rt;
+            Config::new(shards, f, clients).err(),
+            fault,
+            "{shards} {f} {clients}"
+        );
     }
+    let config = Config::new(5, 2, 9)?;
+    assert_eq!(rt; (config.shards(), config.f(), config.clients()), (5, 2, 9));
+    Ok(())
+}
+
+#[test]
+fn a_quorum_has_different_replicas(rt: HostRuntime) {
     assert_eq!(rt; learner(View(7), 2), ReplicaId(2));
     assert!(rt; is_quorum(&[ReplicaId(0), ReplicaId(2)], 1));
     assert!(rt; !is_quorum(&[ReplicaId(2), ReplicaId(2)], 1));
+}
 
+fn make_stamp(alloc: Global) -> Result<Stamp, NoMemory> {
     let mut places = Row::new(alloc);
-    assert!(rt; places.is_empty());
     places.push((ShardId(4), 9))?;
     places.insert(0, (ShardId(1), 3))?;
-    assert_eq!(rt; places.len(), 2);
-    let stamp = Stamp {
+    Ok(Stamp {
         epoch: Epoch(2),
-        places: Row::from_vec(places.copy(alloc)?.into_vec()),
-    };
-    assert!(rt; places.same(&stamp.places));
-    assert_eq!(rt; stamp.places(), places.as_slice());
-    assert_eq!(rt; stamp.number_of(ShardId(4)), Some(9));
-    assert_eq!(rt; stamp.number_of(ShardId(2)), None);
+        places: Row::from_vec(places.into_vec()),
+    })
+}
+
+#[test]
+fn a_stamp_has_its_places(rt: HostRuntime) -> Result<(), Fail> {
+    let stamp = make_stamp(rt.alloc())?;
+    assert_eq!(rt;
+        stamp.places(),
+        [(ShardId(1), 3), (ShardId(4), 9)].as_slice()
+    );
+    assert_eq!(rt; stamp.places.len(), 2);
+    assert!(rt; !stamp.places.is_empty());
+    for (epoch, shard, number, number_of, has) in [
+        (2, 4, 9, Some(9), true),
+        (2, 1, 3, Some(3), true),
+        (2, 1, 4, Some(3), false),
+        (2, 2, 3, None, false),
+        (3, 4, 9, Some(9), false),
+    ] {
+        let shard = ShardId(shard);
+        let place = Place {
+            epoch: Epoch(epoch),
+            shard,
+            number,
+        };
+        assert_eq!(rt; stamp.number_of(shard), number_of);
+        assert_eq!(rt; stamp.has(place), has, "{place:?}");
+    }
+    Ok(())
+}
+
+fn copies_same<T: Dup + Same>(alloc: Global, item: T) -> Result<bool, NoMemory> {
+    let copy = item.copy(alloc)?;
+    Ok(copy.same(&item))
+}
+
+fn copies_ids(alloc: Global) -> Result<bool, NoMemory> {
+    let stamp = copies_same(alloc, make_stamp(alloc)?)?;
+    let client = ClientId(1);
+    let id = TxnId { client, number: 1 };
+    let ids = copies_same(alloc, (id, (client, View(2))))?;
+    let nodes = copies_same(
+        alloc,
+        (Node::Replica(ShardId(1), ReplicaId(2)), Phase::Prelim),
+    )?;
+    Ok(stamp && ids && nodes)
+}
+
+#[test]
+fn a_copy_is_the_same(rt: HostRuntime) -> Result<(), Fail> {
     let place = Place {
-        epoch: Epoch(2),
-        shard: ShardId(1),
+        epoch: Epoch(1),
+        shard: ShardId(2),
         number: 3,
     };
-    assert!(rt; stamp.has(place));
-    assert!(rt; !stamp.has(Place { number: 4, ..place }));
-    assert!(rt; copies_equal(alloc, stamp)?);
-    assert!(rt; copies_equal(alloc, Some(place))?);
-    assert!(rt; copies_equal(alloc, (true, 1u8))?);
-    assert!(rt; copies_equal(alloc, (2u32, 3u64))?);
-    assert!(rt; copies_equal(alloc, (ReplicaId(1), ClientId(2)))?);
-    assert!(rt; copies_equal(alloc, (Epoch(1), View(2)))?);
-    let client = ClientId(1);
-    assert!(rt; copies_equal(alloc, (Node::Client(client), TxnId { client, number: 1 }))?);
-    assert!(rt; !Phase::Whole.copy(alloc)?.same(&Phase::Prelim));
+    assert!(rt; copies_ids(rt.alloc())?);
+    assert!(rt; copies_same(rt.alloc(), Some(place))?);
+    assert!(rt; copies_same(rt.alloc(), ((true, 1u8), (2u32, 3u64)))?);
+    assert!(rt; !Some(place).same(&None));
     Ok(())
 }

@@ -46,7 +46,8 @@ impl From<NoMemory> for ReadEnd {
 /// # Errors
 ///
 /// `Fault` only where the source's count of faults rose. `Long` exactly where more than `limit` bytes
-/// came; then the reading stopped at the first byte past the limit.
+/// came; then the reading stopped at the first byte past the limit. `NoMemory` where an allocation was
+/// refused. The bytes that came before an error are gone.
 pub fn read_all<S: Source>(alloc: Global, src: &mut S, limit: usize) -> Result<Row<u8>, ReadEnd>
     ensures ok { IfOk result (ReadsToEnd (S.left src.old) (S.left src.new) limit) }
     ensures long { result ≡ Err ReadEnd.Long → ReadsPast (S.left src.old) (S.left src.new) limit }

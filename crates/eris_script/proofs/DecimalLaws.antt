@@ -1,8 +1,8 @@
-use Rattle.std.proofs.Common.{◌≡◌, ℕ, ◌+◌, ◌^◌, ◌<◌, ◌≤◌, Bool, true, false, ◌&&◌, nat_le, List, [], ◌∷◌, length, get_or, Option, Some, None, ◌⊎◌, inl, inr, if◌then◌else◌, arith, rules, refl, sym, ◌∙◌}
+use Rattle.std.proofs.Common.{◌≡◌, ℕ, ◌^◌, ◌<◌, ◌≤◌, Bool, true, false, ◌&&◌, nat_le, List, [], ◌∷◌, length, get_or, Option, Some, None, inl, inr, if◌then◌else◌, arith, rules, refl, sym}
 use Rattle.std.specs.Str.Parse.{digits_value}
 use Rattle.std.proofs.lemmas.Bool.{cases_lt}
 use Rattle.std.proofs.lemmas.Bool.Decides.{nat_tests}
-use Rattle.std.proofs.lemmas.Fmt.{digits_decimal, digits_value-decimal, decimal_nonempty, first_decimal, decimal_digit, decimal-digits_value}
+use Rattle.std.proofs.lemmas.Fmt.{digits_decimal, digits_value-decimal, first_decimal, decimal_digit, decimal-digits_value}
 use Rattle.std.proofs.lemmas.Option.{none-some, cond_some}
 use Rattle.std.proofs.lemmas.Str.Parse.{IsDigitsTest, IsNumeralModel, numerals_by_value}
 use Rattle.eris_script.specs.Decimal.{decimal, are_digits, begins_number, digits_up_to, read_decimal}
@@ -19,11 +19,13 @@ begins_by_first : (word : List ℕ) → 48 < get_or word 0 0 → begins_number w
 begins_by_first [] above = absurd (omega arith)
 begins_by_first (first ∷ more) above = grind (arith, nat_tests)
 
-first_of_begun : (word : List ℕ) → begins_number word ≡ true → (0 < length word) × (get_or word 0 0 ≡ 48 → length word ≡ 1)
+first_of_begun : (word : List ℕ) → begins_number word ≡ true →
+    (0 < length word) × (get_or word 0 0 ≡ 48 → length word ≡ 1)
 first_of_begun [] begun = absurd cc
 first_of_begun (first ∷ more) begun = (omega arith, λ zero_first. grind (arith, nat_tests))
 
-some_within : (test : Bool) (inner : Option ℕ) (n : ℕ) → (if test then inner else None) ≡ Some n → (test ≡ true) × (inner ≡ Some n)
+some_within : (test : Bool) (inner : Option ℕ) (n : ℕ) →
+    (if test then inner else None) ≡ Some n → (test ≡ true) × (inner ≡ Some n)
 some_within true inner n read = (refl, read)
 some_within false inner n read = absurd (none-some n read)
 
@@ -55,5 +57,6 @@ read_decimal_only limit word n small read =
     let tests = both_within (are_digits word) (nat_le (digits_value 10 word) limit) value.0 in
     let first = first_of_begun word begun.0 in
     let within : digits_value 10 word ≤ limit = grind (arith, nat_tests, tests.1) in
-    let spelled : decimal (digits_value 10 word) ≡ word = decimal-digits_value digits_model word tests.0 first.0 first.1 (omega arith) in
+    let spelled : decimal (digits_value 10 word) ≡ word =
+    decimal-digits_value digits_model word tests.0 first.0 first.1 (omega arith) in
     (rw (← value.1) (sym spelled), rw value.1 at within)

@@ -1,7 +1,6 @@
-use Rattle.std.proofs.Common.{◌≡◌, ℕ, ◌+◌, ◌-◌, ◌*◌, ◌/◌, ◌%◌, ◌^◌, ◌<◌, ◌≤◌, List, [], ◌∷◌, ◌++◌, length, drop, slice_set, arith, append_assoc}
+use Rattle.std.proofs.Common.{◌≡◌, ℕ, ◌+◌, ◌-◌, ◌/◌, ◌%◌, ◌^◌, ◌<◌, ◌≤◌, List, ◌++◌, length, drop, slice_set, arith}
 use Rattle.std.specs.Fmt.{decimal}
 use Rattle.std.proofs.lemmas.Fmt.{decimal_step, decimal_digit, decimal_nonempty, length-decimal-le}
-use Rattle.std.proofs.lemmas.List.{drop-set}
 use Rattle.std.proofs.lemmas.Grind.{common_steps}
 
 -- a number of 64 bits has at most 20 digits
@@ -19,7 +18,8 @@ none_written n cells whole = grind (arith, common_steps)
 -- the last digit stands before what stood behind all digits
 pub last_digit_written : (n start : ℕ) (cells : List ℕ) → 10 ≤ n → n < 2 ^ 64 → 0 < start → start ≤ length cells →
     decimal (n / 10) ++ drop (start - 1) (slice_set cells (start - 1) (48 + n % 10)) ≡ decimal n ++ drop start cells
-last_digit_written n start cells large small some within = rw (decimal_step n large small) (grind (arith, common_steps))
+last_digit_written n start cells large small some within =
+    rw (decimal_step n large small) (grind (arith, common_steps))
 
 -- and so does the only digit that is left
 pub first_digit_written : (n start : ℕ) (cells : List ℕ) → n < 10 → 0 < start → start ≤ length cells →

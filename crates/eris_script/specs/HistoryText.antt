@@ -16,6 +16,7 @@ abbrev pub value_word : Option ℕ → List ℕ
 value_word (Some value) = decimal value
 value_word None = codes "-"
 
+-- what one operation answered
 abbrev pub op_answer_word : OpAnswer → List ℕ
 op_answer_word (Value value) = decimal value
 op_answer_word Absent = codes "-"
@@ -23,6 +24,7 @@ op_answer_word Done = codes "ok"
 op_answer_word Yes = codes "yes"
 op_answer_word No = codes "no"
 
+-- what a transaction was answered: by its operations, by its keys' values, or its outcome
 abbrev pub answer_words : Answer → List (List ℕ)
 answer_words (Ops answers) = map op_answer_word answers
 answer_words (Values values) = map value_word values

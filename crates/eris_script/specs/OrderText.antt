@@ -5,6 +5,7 @@ use Rattle.eris_audit.specs.declared.outcome.Outcome.TheVariants.{Done, Committe
 use Rattle.eris_script.specs.Decimal.{decimal}
 use Rattle.eris_script.specs.Words.{id_word, place_word}
 
+-- what became of a transaction; `open` is one that isn't decided yet
 abbrev pub outcome_word : Outcome → List ℕ
 outcome_word Done = codes "done"
 outcome_word Committed = codes "committed"

@@ -26,4 +26,5 @@ setting_words setting = codes ";" ∷ how_words setting.how setting.key
 -- a plan: its locked keys, its guards, and then its settings
 abbrev pub plan_words : Plan → List (List ℕ)
 plan_words plan =
-    codes "lock" ∷ (map key_word plan.keys ++ flat_map guard_words plan.guards ++ flat_map setting_words plan.settings)
+    codes "lock" ∷ map key_word plan.keys
+    ++ flat_map guard_words plan.guards ++ flat_map setting_words plan.settings

@@ -4,6 +4,7 @@ use Rattle.eris_script.specs.declared.report.ReplicaState.{ReplicaState}
 use Rattle.eris_script.specs.declared.report.ReplicaState.TheVariants.{Crashed, Stopped, Normal, Changing}
 use Rattle.eris_script.specs.Decimal.{decimal}
 
+-- what a replica is doing
 abbrev pub state_word : ReplicaState → List ℕ
 state_word Crashed = codes "crashed"
 state_word Stopped = codes "stopped"

@@ -36,5 +36,6 @@ report_lines report =
     head_lines report.config ++ map event_words report.history ++ map order_words report.order
     ++ map replica_words report.replicas ++ foot_lines report
 
+-- the lines, one after another
 abbrev pub report_text : Report → List ℕ
 report_text report = flat_map line (report_lines report)

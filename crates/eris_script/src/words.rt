@@ -6,7 +6,7 @@ use crate::number::append_decimal;
 use eris_base::{NoMemory, Row, ShardId, TxnId};
 use eris_txn::Key;
 
-// Each adds a space and a word.
+// Each function here adds words to a line that has its first one, a space before each.
 
 pub(crate) fn put_word(out: &mut Row<u8>, word: &[u8]) -> Result<(), NoMemory>
     ensures { OnOk result (out.new ≡ out.old ++ 32 ∷ word.now) }

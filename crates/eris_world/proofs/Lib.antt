@@ -7,3 +7,4 @@ mod ThinLaw
 mod ThinValues
 mod ThinCounts
 mod ThinSteps
+mod ThinReports

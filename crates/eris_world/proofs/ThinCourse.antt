@@ -123,7 +123,7 @@ at_start = record {
   answers_are = refl;
   messages = refl;
   in_order = tt;
-  last = refl
+  last = refl;
 }
 
 -- the next job
@@ -140,26 +140,26 @@ module _ (w : WorldState) (ops : List Op) (answered held stamped asked : List Jo
 
   pub course_of_submit : Course (submitted w ops) answered held stamped (asked ++ next_job w ops ∷ [])
   course_of_submit =
-    let job : Job = next_job w ops in
-    let jobs : List Job = answered ++ (held ++ (stamped ++ asked)) in
-    let above : last_answered 0 w.history + 1 ≤ w.client.submitted + 1 =
-        rw (course.last, course.counted) (omega (arith, length-append answered (held ++ (stamped ++ asked)))) in
-    let goes_on : _ = in_order_submit 0 w.history (id_of job) (Whole ops) course.in_order above in
-    record {
-      numbered = rw (more job) (numbered_more 1 jobs job course.numbered (omega (arith, course.counted)));
-      counted = rw (more job, length-append) (omega (arith, course.counted));
-      stamps = course.stamps;
-      holds = course.holds;
-      asks_wait = rw (queued (ask_of job), filter-append, asks-append, course.asks_wait) refl;
-      txns_wait = rw (queued (ask_of job), filter-append, course.txns_wait) (simp append-nil);
-      replies_wait = rw (queued (ask_of job), filter-append, course.replies_wait) (simp append-nil);
-      delivered = rw length-append (omega (arith, course.delivered));
-      submits_are = rw (more job, filter-append, submits-append, course.submits_are) refl;
-      answers_are = rw (filter-append, course.answers_are) (simp append-nil);
-      messages = rw (more job, length-append) (omega (arith, course.messages, length-append jobs (job ∷ [])));
-      in_order = goes_on.0;
-      last = goes_on.1 ∙ course.last
-    }
+      let job : Job = next_job w ops in
+      let jobs : List Job = answered ++ (held ++ (stamped ++ asked)) in
+      let above : last_answered 0 w.history + 1 ≤ w.client.submitted + 1 =
+      rw (course.last, course.counted) (omega (arith, length-append answered (held ++ (stamped ++ asked)))) in
+      let goes_on : _ = in_order_submit 0 w.history (id_of job) (Whole ops) course.in_order above in
+      record {
+        numbered = rw (more job) (numbered_more 1 jobs job course.numbered (omega (arith, course.counted)));
+        counted = rw (more job, length-append) (omega (arith, course.counted));
+        stamps = course.stamps;
+        holds = course.holds;
+        asks_wait = rw (queued (ask_of job), filter-append, asks-append, course.asks_wait) refl;
+        txns_wait = rw (queued (ask_of job), filter-append, course.txns_wait) (simp append-nil);
+        replies_wait = rw (queued (ask_of job), filter-append, course.replies_wait) (simp append-nil);
+        delivered = rw length-append (omega (arith, course.delivered));
+        submits_are = rw (more job, filter-append, submits-append, course.submits_are) refl;
+        answers_are = rw (filter-append, course.answers_are) (simp append-nil);
+        messages = rw (more job, length-append w.sent (ask_of job ∷ [])) (omega (arith, course.messages, length-append jobs (job ∷ [])));
+        in_order = goes_on.0;
+        last = goes_on.1 ∙ course.last;
+      }
 
 -- a list that is not empty has a first
 head_is : {X : Type 0} (x y : X) (xs ys : List X) → x ∷ xs ≡ y ∷ ys → x ≡ y
@@ -200,7 +200,7 @@ txns_first packet later (job ∷ jobs) is = (job, jobs, refl, cc, cc)
 replies_first : (id : _) (answer : _) (later : List Message) (held : List Job) (values : Values)
     → Reply id answer ∷ filter is_reply later ≡ replies held values
     → (job : Job) × (jobs : List Job) × (held ≡ job ∷ jobs) × (Reply id answer ≡ Reply (id_of job) (answer_at values job))
-      × (filter is_reply later ≡ replies jobs (after_all job.ops values))
+    × (filter is_reply later ≡ replies jobs (after_all job.ops values))
 replies_first id answer later [] values is = cc
 replies_first id answer later (job ∷ jobs) values is = (job, jobs, refl, cc, cc)
 
@@ -212,14 +212,14 @@ module _ (w : WorldState) (answered held stamped asked : List Job) (course : Cou
   course_of_ask job jobs asked_is wait rest =
       let before : List Job = answered ++ (held ++ stamped) in
       let as_one : answered ++ (held ++ ((stamped ++ job ∷ []) ++ jobs)) ≡ answered ++ (held ++ (stamped ++ asked)) =
-          rw asked_is (simp append_assoc) in
+      rw asked_is (simp append_assoc) in
       let numbered : NumberedFrom 1 (before ++ job ∷ jobs) =
-          let P : List Job → Type 0 = λ list. NumberedFrom 1 list in
-          subst P (ap (λ list. answered ++ (held ++ (stamped ++ list))) asked_is ∙ simp append_assoc) course.numbered in
+      let P : List Job → Type 0 = λ list. NumberedFrom 1 list in
+      subst P (ap (λ list. answered ++ (held ++ (stamped ++ list))) asked_is ∙ simp append_assoc) course.numbered in
       let number : length w.sequencer.stamped + 1 ≡ job.number =
-          omega (arith, number_behind 1 before job jobs numbered, ap length course.stamps, length-packets before) in
+      omega (arith, number_behind 1 before job jobs numbered, ap length course.stamps, length-packets before) in
       let made : packet_at w.sequencer the_client (id_of job) (Independent job.ops) ≡ packet_of job =
-          ap (λ n. let p : Packet = record { stamp = stamp_at n; id = id_of job; asker = the_client; body = Independent job.ops } in p) number in
+      ap (λ n. let p : Packet = record { stamp = stamp_at n; id = id_of job; asker = the_client; body = Independent job.ops } in p) number in
       let sent : Message = Txn (packet_at w.sequencer the_client (id_of job) (Independent job.ops)) in
       let passed : filter is_txn later ≡ txns stamped = rw wait at course.txns_wait in
       let replied : filter is_reply later ≡ replies held (after_jobs answered no_values) = rw wait at course.replies_wait in
@@ -234,9 +234,9 @@ module _ (w : WorldState) (answered held stamped asked : List Job) (course : Cou
         delivered = rw length-append (omega (arith, within w.delivered w.sent _ _ wait));
         submits_are = rw as_one course.submits_are;
         answers_are = course.answers_are;
-        messages = rw (as_one, length-append) (omega (arith, course.messages, simp length-append at (ap length as_one), length-append answered (held ++ (stamped ++ job ∷ [])), length-append held (stamped ++ job ∷ []), length-append stamped (job ∷ []), length-append answered (held ++ stamped), length-append held stamped));
+        messages = rw (as_one, length-append w.sent (sent ∷ [])) (omega (arith, course.messages, simp length-append at (ap length as_one), length-append answered (held ++ (stamped ++ job ∷ [])), length-append held (stamped ++ job ∷ []), length-append stamped (job ∷ []), length-append answered (held ++ stamped), length-append held stamped));
         in_order = course.in_order;
-        last = course.last
+        last = course.last;
       }
 
   -- a stamped packet is held and answered
@@ -245,11 +245,11 @@ module _ (w : WorldState) (answered held stamped asked : List Job) (course : Cou
       → Course (handed (record w { delivered = w.delivered + 1 }) (Txn (packet_of job))) answered (held ++ job ∷ []) jobs asked
   course_of_packet job jobs stamped_is wait rest =
       let as_one : answered ++ ((held ++ job ∷ []) ++ (jobs ++ asked)) ≡ answered ++ (held ++ (stamped ++ asked)) =
-          rw stamped_is (simp append_assoc) in
+      rw stamped_is (simp append_assoc) in
       let stamps_one : answered ++ ((held ++ job ∷ []) ++ jobs) ≡ answered ++ (held ++ stamped) = rw stamped_is (simp append_assoc) in
       let found : Values = after_jobs held (after_jobs answered no_values) in
       let values : values_after w.replica.held no_values ≡ found =
-          rw course.holds (values_after-packets (answered ++ held) no_values ∙ after_jobs-append answered held no_values) in
+      rw course.holds (values_after-packets (answered ++ held) no_values ∙ after_jobs-append answered held no_values) in
       let sent : Message = Reply (id_of job) (Ops (answers job.ops (values_after w.replica.held no_values))) in
       let made : sent ≡ Reply (id_of job) (answer_at found job) = ap (λ v. Reply (id_of job) (Ops (answers job.ops v))) values in
       let asked_still : filter is_ask later ≡ asks asked = rw wait at course.asks_wait in
@@ -266,9 +266,9 @@ module _ (w : WorldState) (answered held stamped asked : List Job) (course : Cou
         delivered = rw length-append (omega (arith, within w.delivered w.sent _ _ wait));
         submits_are = rw as_one course.submits_are;
         answers_are = course.answers_are;
-        messages = rw (as_one, stamps_one, length-append) (omega (arith, course.messages, length-append answered (held ++ job ∷ []), length-append held (job ∷ []), length-append answered held));
+        messages = rw (as_one, stamps_one, length-append w.sent (sent ∷ [])) (omega (arith, course.messages, length-append answered (held ++ job ∷ []), length-append held (job ∷ []), length-append answered held));
         in_order = course.in_order;
-        last = course.last
+        last = course.last;
       }
 
   -- a reply is told
@@ -276,21 +276,21 @@ module _ (w : WorldState) (answered held stamped asked : List Job) (course : Cou
       → waiting w ≡ Reply (id_of job) (answer_at (after_jobs answered no_values) job) ∷ later
       → filter is_reply later ≡ replies jobs (after_all job.ops (after_jobs answered no_values))
       → Course (handed (record w { delivered = w.delivered + 1 }) (Reply (id_of job) (answer_at (after_jobs answered no_values) job)))
-          (answered ++ job ∷ []) jobs stamped asked
+      (answered ++ job ∷ []) jobs stamped asked
   course_of_reply job jobs held_is wait rest =
       let as_one : (answered ++ job ∷ []) ++ (jobs ++ (stamped ++ asked)) ≡ answered ++ (held ++ (stamped ++ asked)) =
-          rw held_is (simp append_assoc) in
+      rw held_is (simp append_assoc) in
       let stamps_one : (answered ++ job ∷ []) ++ (jobs ++ stamped) ≡ answered ++ (held ++ stamped) = rw held_is (simp append_assoc) in
       let holds_one : (answered ++ job ∷ []) ++ jobs ≡ answered ++ held = rw held_is (simp append_assoc) in
       let asked_still : filter is_ask later ≡ asks asked = rw wait at course.asks_wait in
       let stamped_still : filter is_txn later ≡ txns stamped = rw wait at course.txns_wait in
       let left : drop (w.delivered + 1) w.sent ≡ later = drop-next w.delivered w.sent _ later wait in
       let numbered : NumberedFrom 1 (answered ++ job ∷ (jobs ++ (stamped ++ asked))) =
-          let P : List Job → Type 0 = λ list. NumberedFrom 1 list in
-          subst P (ap (λ list. answered ++ (list ++ (stamped ++ asked))) held_is) course.numbered in
+      let P : List Job → Type 0 = λ list. NumberedFrom 1 list in
+      subst P (ap (λ list. answered ++ (list ++ (stamped ++ asked))) held_is) course.numbered in
       let number : job.number ≡ 1 + length answered = number_behind 1 answered job (jobs ++ (stamped ++ asked)) numbered in
       let goes_on : _ = in_order_answer 0 w.history (id_of job) (answer_at (after_jobs answered no_values) job) course.in_order
-          (rw course.last (omega (arith, number))) in
+      (rw course.last (omega (arith, number))) in
       record {
         numbered = rw as_one course.numbered;
         counted = rw as_one course.counted;
@@ -304,7 +304,7 @@ module _ (w : WorldState) (answered held stamped asked : List Job) (course : Cou
         answers_are = rw (filter-append, course.answers_are) (sym (told-append answered (job ∷ []) no_values));
         messages = rw (as_one, stamps_one, holds_one) course.messages;
         in_order = goes_on.0;
-        last = goes_on.1 ∙ (number ∙ rw length-append (omega arith))
+        last = goes_on.1 ∙ (number ∙ rw length-append (omega arith));
       }
 
 goes_submit : (w : WorldState) (ops : List Op) → Goes w → Goes (submitted w ops)
@@ -313,7 +313,7 @@ goes_submit w ops goes = record {
   held = goes.held;
   stamped = goes.stamped;
   asked = goes.asked ++ next_job w ops ∷ [];
-  course = course_of_submit w ops goes.answered goes.held goes.stamped goes.asked goes.course
+  course = course_of_submit w ops goes.answered goes.held goes.stamped goes.asked goes.course;
 }
 
 goes_flow : (w : WorldState) (queue : List Message) → waiting w ≡ queue → Goes w → Goes (flowed_by w queue)
@@ -327,7 +327,7 @@ goes_flow w (Ask asker id body ∷ later) wait goes =
       stamped = goes.stamped ++ first.0 ∷ [];
       asked = first.1;
       course = course_of_ask w goes.answered goes.held goes.stamped goes.asked goes.course later first.0 first.1 first.2
-        (wait ∙ ap (λ message. message ∷ later) first.3) first.4
+          (wait ∙ ap (λ message. message ∷ later) first.3) first.4;
     })
 goes_flow w (Txn packet ∷ later) wait goes =
     let first : _ = txns_first packet later goes.stamped (rw wait at goes.course.txns_wait) in
@@ -338,7 +338,7 @@ goes_flow w (Txn packet ∷ later) wait goes =
       stamped = first.1;
       asked = goes.asked;
       course = course_of_packet w goes.answered goes.held goes.stamped goes.asked goes.course later first.0 first.1 first.2
-        (wait ∙ ap (λ packet. Txn packet ∷ later) first.3) first.4
+          (wait ∙ ap (λ packet. Txn packet ∷ later) first.3) first.4;
     })
 goes_flow w (Reply id answer ∷ later) wait goes =
     let first : _ = replies_first id answer later goes.held (after_jobs goes.answered no_values) (rw wait at goes.course.replies_wait) in
@@ -349,7 +349,7 @@ goes_flow w (Reply id answer ∷ later) wait goes =
       stamped = goes.stamped;
       asked = goes.asked;
       course = course_of_reply w goes.answered goes.held goes.stamped goes.asked goes.course later first.0 first.1 first.2
-        (wait ∙ ap (λ message. message ∷ later) first.3) first.4
+          (wait ∙ ap (λ message. message ∷ later) first.3) first.4;
     })
 
 -- a submission that is taken is not refused

@@ -33,14 +33,15 @@ each_event P of_submit top (happened.Told client id answer ∷ history) in_order
 -- what holds of each job's answer after the jobs before it holds of all that was told
 pub each_told : (P : HistoryEvent → Type 0) (before jobs : List Job)
     → ((xs : List Job) (job : Job) (ys : List Job) → before ++ jobs ≡ xs ++ job ∷ ys
-        → P (happened.Answer (id_of job) (answer_at (after_jobs xs no_values) job)))
+    → P (happened.Answer (id_of job) (answer_at (after_jobs xs no_values) job)))
     → Each P (told jobs (after_jobs before no_values))
 each_told P before [] of_job = tt
 each_told P before (job ∷ jobs) of_job =
-    let Q : Values → Type 0 = λ values. Each P (told jobs values) in
-    (of_job before job jobs refl,
-     subst Q (after_jobs-append before (job ∷ []) no_values)
-       (each_told P (before ++ job ∷ []) jobs (λ xs other ys is. of_job xs other ys (sym (append_assoc before (job ∷ []) jobs) ∙ is))))
+    let Q : Values → Type 0 = λ values. Each P (told jobs values) in (
+      of_job before job jobs refl,
+      subst Q (after_jobs-append before (job ∷ []) no_values)
+          (each_told P (before ++ job ∷ []) jobs (λ xs other ys is. of_job xs other ys (sym (append_assoc before (job ∷ []) jobs) ∙ is))),
+    )
 
 -- each job's operations are those that its id submitted
 pub knows_jobs : (history : List HistoryEvent) (xs jobs : List Job) → NumberedFrom 1 (xs ++ jobs)
@@ -48,11 +49,12 @@ pub knows_jobs : (history : List HistoryEvent) (xs jobs : List Job) → Numbered
 knows_jobs history xs [] numbered is = tt
 knows_jobs history xs (job ∷ jobs) numbered is =
     let found : first_submit history (id_of job) ≡ Some (Whole job.ops) =
-        first_submit-filter history (id_of job) ∙ (ap (λ events. first_submit events (id_of job)) is ∙ first_submit-job 1 xs job jobs numbered) in
+    first_submit-filter history (id_of job) ∙ (ap (λ events. first_submit events (id_of job)) is ∙ first_submit-job 1 xs job jobs numbered) in
     let P : List Job → Type 0 = λ list. NumberedFrom 1 list in
-    let e : (xs ++ job ∷ []) ++ jobs ≡ xs ++ job ∷ jobs = append_assoc xs (job ∷ []) jobs in
-    (ap (λ txn. unwrap_or txn (Whole [])) found,
-     knows_jobs history (xs ++ job ∷ []) jobs (subst P (sym e) numbered) (is ∙ ap submits (sym e)))
+    let e : (xs ++ job ∷ []) ++ jobs ≡ xs ++ job ∷ jobs = append_assoc xs (job ∷ []) jobs in (
+      ap (λ txn. unwrap_or txn (Whole [])) found,
+      knows_jobs history (xs ++ job ∷ []) jobs (subst P (sym e) numbered) (is ∙ ap submits (sym e)),
+    )
 
 -- answers up to here are of numbers up to there
 abbrev pub IsAnsweredUpTo : ℕ → HistoryEvent → Type 0
@@ -87,14 +89,16 @@ before_it jobs numbered top id above (happened.Told client other answer) is = tt
 pub follows : (jobs : List Job) → NumberedFrom 1 jobs → (top : ℕ) (before history : List HistoryEvent)
     → IsInOrder top history → Each (IsAnsweredUpTo top) before → EachAfter (FollowsAnswered (done_lines jobs)) before history
 follows jobs numbered top before [] in_order up_to = tt
-follows jobs numbered top before (happened.Submit id txn ∷ history) in_order up_to =
-    (each_map (IsAnsweredUpTo top) (AnsweredStandsBefore (done_lines jobs) id) (before_it jobs numbered top id in_order.0) before up_to,
-     follows jobs numbered top (before ++ happened.Submit id txn ∷ []) history in_order.1
-       (each_more (IsAnsweredUpTo top) before (happened.Submit id txn) up_to tt))
+follows jobs numbered top before (happened.Submit id txn ∷ history) in_order up_to = (
+  each_map (IsAnsweredUpTo top) (AnsweredStandsBefore (done_lines jobs) id) (before_it jobs numbered top id in_order.0) before up_to,
+  follows jobs numbered top (before ++ happened.Submit id txn ∷ []) history in_order.1
+      (each_more (IsAnsweredUpTo top) before (happened.Submit id txn) up_to tt),
+)
 follows jobs numbered top before (happened.Read id values ∷ history) in_order up_to = absurd in_order
-follows jobs numbered top before (happened.Answer id answer ∷ history) in_order up_to =
-    (tt,
-     follows jobs numbered id.number (before ++ happened.Answer id answer ∷ []) history in_order.1
-       (each_more (IsAnsweredUpTo id.number) before (happened.Answer id answer)
-         (each_map (IsAnsweredUpTo top) (IsAnsweredUpTo id.number) (up_to_more top id.number in_order.0) before up_to) (omega arith)))
+follows jobs numbered top before (happened.Answer id answer ∷ history) in_order up_to = (
+  tt,
+  follows jobs numbered id.number (before ++ happened.Answer id answer ∷ []) history in_order.1
+      (each_more (IsAnsweredUpTo id.number) before (happened.Answer id answer)
+      (each_map (IsAnsweredUpTo top) (IsAnsweredUpTo id.number) (up_to_more top id.number in_order.0) before up_to) (omega arith)),
+)
 follows jobs numbered top before (happened.Told client id answer ∷ history) in_order up_to = absurd in_order

@@ -35,18 +35,18 @@ held_one n [] job numbered from below = absurd (omega arith)
 held_one n (other ∷ jobs) job numbered from below =
     by_number (other.number == job.number) refl (λ apart. held_one (n + 1) jobs job numbered.1 (omega (arith, numbered.0, apart)) (omega arith))
   where
-  by_number : (b : Bool) → (other.number == job.number) ≡ b → (other.number ≢ job.number → is_held jobs (packet_of job) ≡ true)
-      → is_held (other ∷ jobs) (packet_of job) ≡ true
-  by_number true is later = or_left (other.number == job.number) (is_held jobs (packet_of job)) is
-  by_number false is later =
-      or_right (other.number == job.number) (is_held jobs (packet_of job))
+    by_number : (b : Bool) → (other.number == job.number) ≡ b → (other.number ≢ job.number → is_held jobs (packet_of job) ≡ true)
+        → is_held (other ∷ jobs) (packet_of job) ≡ true
+    by_number true is later = or_left (other.number == job.number) (is_held jobs (packet_of job)) is
+    by_number false is later =
+        or_right (other.number == job.number) (is_held jobs (packet_of job))
         (later (λ e. let t : (other.number == job.number) ≡ true = eq-eqb other.number job.number e in cc))
 
 held_none : (n : ℕ) (jobs : List Job) (job : Job) → NumberedFrom n jobs → n + length jobs ≤ job.number → is_held jobs (packet_of job) ≡ false
 held_none n [] job numbered above = refl
 held_none n (other ∷ jobs) job numbered above =
     rw (not_true (other.number == job.number) (λ is. omega (arith, numbered.0, eqb-true other.number job.number is)))
-      (held_none (n + 1) jobs job numbered.1 (omega arith))
+    (held_none (n + 1) jobs job numbered.1 (omega arith))
 
 kept : (p : Packet → Bool) (jobs : List Job) → Each (λ job. p (packet_of job) ≡ true) jobs → filter p (packets jobs) ≡ packets jobs
 kept p [] each = refl
@@ -59,16 +59,18 @@ dropped p (job ∷ jobs) each = rw each.0 (dropped p jobs each.1)
 each_held : (jobs : List Job) → NumberedFrom 1 jobs → (n : ℕ) (some : List Job) → NumberedFrom n some
     → 1 ≤ n → n + length some ≤ 1 + length jobs → Each (λ job. is_held jobs (packet_of job) ≡ true) some
 each_held jobs numbered n [] some_numbered from below = tt
-each_held jobs numbered n (job ∷ some) some_numbered from below =
-    (held_one 1 jobs job numbered (omega (arith, some_numbered.0)) (omega (arith, some_numbered.0)),
-     each_held jobs numbered (n + 1) some some_numbered.1 (omega arith) (omega arith))
+each_held jobs numbered n (job ∷ some) some_numbered from below = (
+  held_one 1 jobs job numbered (omega (arith, some_numbered.0)) (omega (arith, some_numbered.0)),
+  each_held jobs numbered (n + 1) some some_numbered.1 (omega arith) (omega arith),
+)
 
 none_held : (jobs : List Job) → NumberedFrom 1 jobs → (n : ℕ) (some : List Job) → NumberedFrom n some
     → 1 + length jobs ≤ n → Each (λ job. is_held jobs (packet_of job) ≡ false) some
 none_held jobs numbered n [] some_numbered above = tt
-none_held jobs numbered n (job ∷ some) some_numbered above =
-    (held_none 1 jobs job numbered (omega (arith, some_numbered.0)),
-     none_held jobs numbered (n + 1) some some_numbered.1 (omega arith))
+none_held jobs numbered n (job ∷ some) some_numbered above = (
+  held_none 1 jobs job numbered (omega (arith, some_numbered.0)),
+  none_held jobs numbered (n + 1) some some_numbered.1 (omega arith),
+)
 
 pub order_is : (w : WorldState) (held stamped : List Job) → NumberedFrom 1 (held ++ stamped)
     → w.sequencer.stamped ≡ packets (held ++ stamped) → w.replica.held ≡ packets held → order w ≡ packets held
@@ -76,8 +78,8 @@ order_is w held stamped numbered stamps holds =
     let front : NumberedFrom 1 held = numbered_front 1 held stamped numbered in
     let back : NumberedFrom (1 + length held) stamped = numbered_back 1 held stamped numbered in
     rw (stamps, packets-append, filter-append, holds)
-      (ap (λ list. list ++ filter (is_held held) (packets stamped)) (kept (is_held held) held (each_held held front 1 held front (omega arith) (omega arith)))
-       ∙ (ap (λ list. packets held ++ list) (dropped (is_held held) stamped (none_held held front (1 + length held) stamped back (omega arith))) ∙ append-nil (packets held)))
+    (ap (λ list. list ++ filter (is_held held) (packets stamped)) (kept (is_held held) held (each_held held front 1 held front (omega arith) (omega arith)))
+    ∙ (ap (λ list. packets held ++ list) (dropped (is_held held) stamped (none_held held front (1 + length held) stamped back (omega arith))) ∙ append-nil (packets held)))
 
 lines_are : (jobs : List Job) → lines_of (map line_of (packets jobs)) ≡ done_lines jobs
 lines_are [] = refl
@@ -87,7 +89,6 @@ lines_are (job ∷ jobs) = ap (λ (rest : List Line). record { id = id_of job; o
 
 module _ (history : List HistoryEvent) (jobs more : List Job)
     (numbered : NumberedFrom 1 (jobs ++ more)) (submits_are : filter is_submit history ≡ submits (jobs ++ more)) where
-
   submitted : (xs : List Job) (job : Job) (ys : List Job) → jobs ++ more ≡ xs ++ job ∷ ys → first_submit history (id_of job) ≡ Some (Whole job.ops)
   submitted xs job ys is =
       let P : List Job → Type 0 = λ list. NumberedFrom 1 list in
@@ -102,13 +103,14 @@ module _ (history : List HistoryEvent) (jobs more : List Job)
       let all : NumberedFrom 1 (xs ++ job ∷ (rest ++ more)) = subst P split numbered in
       let front : NumberedFrom 1 xs = numbered_front 1 xs (job ∷ (rest ++ more)) all in
       let found : first_submit history (id_of job) ≡ Some (Whole job.ops) = submitted xs job (rest ++ more) split in
-      let Q : List Line → Type 0 = λ before. EachAfter (IsOrderLine history) before (done_lines rest) in
-      (record {
-        once = has_none 1 xs (id_of job) front (omega (arith, number_behind 1 xs job (rest ++ more) all));
-        submitted = rw found refl;
-        kind = rw found refl
-      },
-       subst Q (done_lines-append xs (job ∷ [])) (order_lines_hold (xs ++ job ∷ []) rest (is ∙ sym (append_assoc xs (job ∷ []) rest))))
+      let Q : List Line → Type 0 = λ before. EachAfter (IsOrderLine history) before (done_lines rest) in (
+        record {
+          once = has_none 1 xs (id_of job) front (omega (arith, number_behind 1 xs job (rest ++ more) all));
+          submitted = rw found refl;
+          kind = rw found refl;
+        },
+        subst Q (done_lines-append xs (job ∷ [])) (order_lines_hold (xs ++ job ∷ []) rest (is ∙ sym (append_assoc xs (job ∷ []) rest))),
+      )
 
   guards_hold_everywhere : (before : List Line) (rest : List Job) → EachAfter (GuardsHold history) before (done_lines rest)
   guards_hold_everywhere before [] = tt
@@ -137,9 +139,9 @@ module _ (history : List HistoryEvent) (jobs more : List Job)
         let K : List Job → Type 0 = λ list. Knows (txn_of history) list in
         let here : NumberedFrom 1 (xs ++ job ∷ (ys ++ held)) = subst P split (numbered_front 1 jobs more numbered) in
         let knows : Knows (txn_of history) (xs ++ job ∷ (ys ++ held)) =
-            subst K split (knows_front (txn_of history) jobs more (knows_jobs history [] (jobs ++ more) numbered submits_are)) in
+        subst K split (knows_front (txn_of history) jobs more (knows_jobs history [] (jobs ++ more) numbered submits_are)) in
         let found : first_submit history (id_of job) ≡ Some (Whole job.ops) =
-            submitted xs job ((ys ++ held) ++ more) (ap (λ list. list ++ more) split ∙ append_assoc xs (job ∷ (ys ++ held)) more) in
+        submitted xs job ((ys ++ held) ++ more) (ap (λ list. list ++ more) split ∙ append_assoc xs (job ∷ (ys ++ held)) more) in
         rw (found, split) (result_is 1 (txn_of history) xs job (ys ++ held) no_values here knows)
 
     told_each : told_of (IsToldOutcome (done_lines jobs))
@@ -154,29 +156,29 @@ good_of w goes =
     let P : List Job → Type 0 = λ list. NumberedFrom 1 list in
     let numbered : NumberedFrom 1 (jobs ++ more) = subst P as_two course.numbered in
     let stamped_numbered : NumberedFrom 1 (jobs ++ goes.stamped) =
-        numbered_front 1 (jobs ++ goes.stamped) goes.asked (subst P (sym (append_assoc jobs goes.stamped goes.asked)) numbered) in
+    numbered_front 1 (jobs ++ goes.stamped) goes.asked (subst P (sym (append_assoc jobs goes.stamped goes.asked)) numbered) in
     let submits_are : filter is_submit w.history ≡ submits (jobs ++ more) = course.submits_are ∙ ap submits as_two in
     let order_packets : order w ≡ packets jobs =
-        order_is w jobs goes.stamped stamped_numbered (course.stamps ∙ ap packets (sym (append_assoc goes.answered goes.held goes.stamped))) course.holds in
+    order_is w jobs goes.stamped stamped_numbered (course.stamps ∙ ap packets (sym (append_assoc goes.answered goes.held goes.stamped))) course.holds in
     let lines : lines_of (order_lines w) ≡ done_lines jobs = ap (λ list. lines_of (map line_of list)) order_packets ∙ lines_are jobs in
     let serial : IsSerial w.history (done_lines jobs) = record {
       order_lines = order_lines_hold w.history jobs more numbered submits_are [] jobs refl;
       have_lines = each_event (HasItsLine (done_lines jobs)) (λ id txn. tt) 0 w.history course.in_order
           (answers_each w.history jobs more numbered submits_are goes.answered goes.held refl course.answers_are (HasItsLine (done_lines jobs))
-            (has_each w.history jobs more numbered submits_are goes.answered goes.held refl course.answers_are));
+          (has_each w.history jobs more numbered submits_are goes.answered goes.held refl course.answers_are));
       guards = guards_hold_everywhere w.history jobs more numbered submits_are [] jobs;
       equal = each_event (EqualsRun w.history (done_lines jobs)) (λ id txn. tt) 0 w.history course.in_order
           (answers_each w.history jobs more numbered submits_are goes.answered goes.held refl course.answers_are (EqualsRun w.history (done_lines jobs))
-            (equals_each w.history jobs more numbered submits_are goes.answered goes.held refl course.answers_are));
+          (equals_each w.history jobs more numbered submits_are goes.answered goes.held refl course.answers_are));
       follows = follows jobs (numbered_front 1 jobs more numbered) 0 [] w.history course.in_order tt;
       told = each_event (IsToldOutcome (done_lines jobs)) (λ id txn. tt) 0 w.history course.in_order
           (answers_each w.history jobs more numbered submits_are goes.answered goes.held refl course.answers_are (IsToldOutcome (done_lines jobs))
-            (told_each w.history jobs more numbered submits_are goes.answered goes.held refl course.answers_are))
+          (told_each w.history jobs more numbered submits_are goes.answered goes.held refl course.answers_are));
     } in
     let S : List Line → Type 0 = λ list. IsSerial w.history list in
     record {
       serial = subst S (sym lines) serial;
-      settled = record { rest = order w; joined = refl }
+      settled = record { rest = order w; joined = refl };
     }
 
 pub run_is_good : (events : List Event) (w : WorldState) → run events ≡ Ok w → Good w

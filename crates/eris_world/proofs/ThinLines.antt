@@ -138,5 +138,5 @@ pub first_submit-job : (n : ℕ) (xs : List Job) (job : Job) (ys : List Job) →
 first_submit-job n [] job ys numbered = rw (same_self (id_of job)) refl
 first_submit-job n (x ∷ xs) job ys numbered =
     let apart : same_id (id_of x) (id_of job) ≡ false =
-        other_number (id_of x) (id_of job) (λ e. omega (arith, numbered.0, number_behind (n + 1) xs job ys numbered.1, e)) in
+    other_number (id_of x) (id_of job) (λ e. omega (arith, numbered.0, number_behind (n + 1) xs job ys numbered.1, e)) in
     rw apart (first_submit-job (n + 1) xs job ys numbered.1)

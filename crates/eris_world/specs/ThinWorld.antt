@@ -34,7 +34,7 @@ start = record {
   client = record { submitted = 0 };
   sent = [];
   delivered = 0;
-  history = []
+  history = [];
 }
 
 -- the messages that wait, lowest first
@@ -52,7 +52,7 @@ the_client = record { 0 = 0 }
 abbrev pub submitted : WorldState → List Op → WorldState
 submitted w ops = send (record w {
   client = after_submit w.client;
-  history = w.history ++ happened.Submit (next_id w.client) (Whole ops) ∷ []
+  history = w.history ++ happened.Submit (next_id w.client) (Whole ops) ∷ [];
 }) (Ask the_client (next_id w.client) (Independent ops))
 
 -- a message is handed to its node

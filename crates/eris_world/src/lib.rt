@@ -14,3 +14,6 @@ pub use thin_law::every_run_is_good;
 pub use thin_message::Message;
 pub use thin_refusal::Refusal;
 pub use thin_world::World;
+
+#[cfg(test)]
+mod tests;

@@ -8,5 +8,4 @@ ghost use Rattle.eris_world.specs.ThinOrder.{Good};
 /// contract is the law.
 pub fn every_run_is_good()
     ensures { (events : List Event) (world : WorldState) → run events ≡ Ok world → Good world }
-{
-}
+{}

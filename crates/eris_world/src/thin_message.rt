@@ -12,9 +12,14 @@ pub enum Message {
         body: Body,
     },
     /// The sequencer hands a stamped body to the replica.
-    Txn { packet: Packet },
+    Txn {
+        packet: Packet,
+    },
     /// The replica answers a transaction to its client.
-    Reply { id: TxnId, answer: Answer },
+    Reply {
+        id: TxnId,
+        answer: Answer,
+    },
 }
 
 impl Dup for Message {

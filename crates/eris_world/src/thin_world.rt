@@ -1,12 +1,14 @@
-ghost use Rattle.std.specs.Prelude.{◌≡◌, ◌≢◌, ◌+◌, ◌*◌, ◌<◌, ◌^◌, [], true, false, drop, Ok, Err, Some, IfOk, IfErr, OnOk, OnErr, is_some, ◌≤◌, length};
+ghost use Rattle.std.specs.Prelude.{◌≡◌, ◌≢◌, ◌+◌, ◌*◌, ◌<◌, ◌^◌, [], true, false, drop, Ok, Err, Some, IfOk, IfErr, OnOk, OnErr, is_some, nat_lt, ◌≤◌, ◌∷◌, length, map};
 ghost use Rattle.eris_world.specs.ThinWaiting.{first_of};
 ghost use Rattle.eris_world.specs.ThinWorld.{start, submitted, flowed, are_on_shard, after, waiting};
-ghost use Rattle.eris_world.specs.ThinReport.{report_of};
+ghost use Rattle.eris_world.specs.ThinReport.{report_of, replica_line};
+ghost use Rattle.eris_world.specs.ThinOrder.{line_of};
 
 use crate::thin_event::Event;
 use crate::thin_message::Message;
 use crate::thin_nodes::{hold, stamp};
 use crate::thin_refusal::Refusal;
+use eris_audit::{OrderLine, Outcome};
 use eris_base::{ClientId, Config, Dup, Epoch, NoMemory, ReplicaId, Row, ShardId, TxnId, View};
 use eris_script::{ReplicaLine, ReplicaState, Report};
 use eris_txn::{Answer, Body, HistoryEvent, KeyValues, Op, Packet, Txn};
@@ -37,33 +39,29 @@ impl Model for World {
 
     ghost Value = { KeptWorld };
 
-    ghost view = {
-        λ w. record {
-            state = record {
-                sequencer = record { stamped = w.stamped };
-                replica = record { held = w.held };
-                client = record { submitted = w.submitted };
-                sent = w.sent;
-                delivered = w.delivered;
-                history = w.history
-            };
-            spent = w.spent
-        }
-    };
+    ghost view = { λ w. record {
+      state = record {
+        sequencer = record { stamped = w.stamped };
+        replica = record { held = w.held };
+        client = record { submitted = w.submitted };
+        sent = w.sent;
+        delivered = w.delivered;
+        history = w.history;
+      };
+      spent = w.spent;
+    } };
 
-    ghost invariant = {
-        λ w. w.spent ≡ false
-            → IsOfRun (record {
-                sequencer = record { stamped = w.stamped };
-                replica = record { held = w.held };
-                client = record { submitted = w.submitted };
-                sent = w.sent;
-                delivered = w.delivered;
-                history = w.history
-            })
-            × (values_of w.values ≡ values_after w.held no_values)
-            × (3 * w.submitted < 2 ^ 32)
-    };
+    ghost invariant = { λ w. w.spent ≡ false
+        → IsOfRun (record {
+          sequencer = record { stamped = w.stamped };
+          replica = record { held = w.held };
+          client = record { submitted = w.submitted };
+          sent = w.sent;
+          delivered = w.delivered;
+          history = w.history;
+        })
+        × (values_of w.values ≡ values_after w.held no_values)
+        × (3 * w.submitted < 2 ^ 32) };
 }
 
 impl World {
@@ -91,6 +89,13 @@ impl World {
         self.spent
     }
 
+    /// Whether one more submission can be counted; [`World::apply`] asks for it.
+    pub fn has_room(&self) -> bool
+        ensures { result ≡ nat_lt (3 * (self.now.state.client.submitted + 1)) (2 ^ 32) }
+    {
+        3 * (self.submitted as u64 + 1) < 1 << 32
+    }
+
     /// One event. `NoSuchClient` exactly where a submission's client isn't in the config, else `NoSuchShard`
     /// exactly where one of its keys is of a shard that isn't; the world is then as before. After `NoMemory`
     /// it is spent.
@@ -98,10 +103,8 @@ impl World {
         requires unspent { self.old.spent ≡ false }
         requires room { 3 * (self.old.state.client.submitted + 1) < 2 ^ 32 }
         ensures ok { OnOk result ((after self.old.state event ≡ Ok self.new.state) × (self.new.spent ≡ false)) }
-        ensures refused {
-            IfErr result (λ refusal. refusal ≢ Refusal.NoMemory
-                → (after self.old.state event ≡ Err refusal) × (self.new ≡ self.old))
-        }
+        ensures refused { IfErr result (λ refusal. refusal ≢ Refusal.NoMemory
+            → (after self.old.state event ≡ Err refusal) × (self.new ≡ self.old)) }
         ensures no_memory { result ≡ Err Refusal.NoMemory → self.new.spent ≡ true }
     {
         match event {
@@ -128,6 +131,26 @@ impl World {
         ensures { result ≡ is_some (first_of (waiting self.now.state)) }
     {
         has_next(self.sent.as_slice(), self.delivered)
+    }
+
+    /// What the world reports of itself: its config, what happened at the client, the order, and how far
+    /// each node has come. It doesn't spend the world.
+    pub fn report(&self) -> Result<Report, NoMemory>
+        requires { self.now.spent ≡ false }
+        ensures { IfOk result (λ report. report ≡ report_of self.now.state) }
+    {
+        let held = self.held.len() as u32;
+        Ok(Report {
+            config: the_config(),
+            history: self.history.copy(self.alloc)?,
+            order: lines_of_packets(self.alloc, self.held.as_slice())?,
+            replicas: replica_lines(self.alloc, held)?,
+            current: Epoch(0),
+            target: Epoch(0),
+            found: 0,
+            dropped: 0,
+            sent: self.sent.len() as u32,
+        })
     }
 
     /// Delivers the lowest waiting message, if there is one.
@@ -163,7 +186,14 @@ impl World {
     {
         self.spent = true;
         self.delivered += 1;
-        stamp(self.alloc, &mut self.stamped, &mut self.sent, asker, id, body)?;
+        stamp(
+            self.alloc,
+            &mut self.stamped,
+            &mut self.sent,
+            asker,
+            id,
+            body,
+        )?;
         self.spent = false;
         Ok(())
     }
@@ -176,7 +206,13 @@ impl World {
     {
         self.spent = true;
         self.delivered += 1;
-        hold(self.alloc, &mut self.held, &mut self.values, &mut self.sent, packet)?;
+        hold(
+            self.alloc,
+            &mut self.held,
+            &mut self.values,
+            &mut self.sent,
+            packet,
+        )?;
         self.spent = false;
         Ok(())
     }
@@ -207,7 +243,8 @@ impl World {
             number: self.submitted + 1,
         };
         let asked = ops.copy(self.alloc)?;
-        self.history.push(HistoryEvent::Submit(id, Txn::Whole(ops)))?;
+        self.history
+            .push(HistoryEvent::Submit(id, Txn::Whole(ops)))?;
         self.sent.push(Message::Ask {
             asker: ClientId(0),
             id,
@@ -248,4 +285,44 @@ fn next_of(alloc: Global, sent: &[Message], delivered: usize) -> Result<Option<M
         [next, ..] => Ok(Some(next.copy(alloc)?)),
         [] => Ok(None),
     }
+}
+
+fn the_config() -> Config
+    ensures { result ≡ record { shards = 1; f = 0; clients = 1 } }
+{
+    match Config::new(1, 0, 1) {
+        Ok(config) => config,
+        Err(_) => unreachable!(),
+    }
+}
+
+fn lines_of_packets(alloc: Global, packets: &[Packet]) -> Result<Row<OrderLine>, NoMemory>
+    ensures { IfOk result (λ lines. lines ≡ map line_of packets.now) }
+{
+    let mut lines = Row::new(alloc);
+    for packet in packets {
+        lines.push(OrderLine {
+            id: packet.id,
+            outcome: Outcome::Done,
+            stamp: packet.stamp.copy(alloc)?,
+        })?;
+    }
+    Ok(lines)
+}
+
+fn replica_lines(alloc: Global, held: u32) -> Result<Row<ReplicaLine>, NoMemory>
+    ensures { IfOk result (λ lines. lines ≡ replica_line held ∷ []) }
+{
+    let mut lines = Row::new(alloc);
+    lines.push(ReplicaLine {
+        shard: ShardId(0),
+        replica: ReplicaId(0),
+        state: ReplicaState::Normal,
+        epoch: Epoch(0),
+        view: View(0),
+        held,
+        length: held,
+        settled: 0,
+    })?;
+    Ok(lines)
 }

@@ -19,5 +19,5 @@ invariant_of-self-2 c =
     let unspent : c.self.inside.spent ≡ false = ap (λ kept. kept.spent) c.self.view_is ∙ c.requires.unspent in
     let kept : _ = c.self.invariant unspent in
     let next : first_of (drop c.self.inside.delivered c.self.inside.sent) ≡ Some (Reply c.args.id c.args.answer) =
-        ap (λ kept. first_of (waiting kept.state)) c.self.view_is ∙ c.requires.next in
+    ap (λ kept. first_of (waiting kept.state)) c.self.view_is ∙ c.requires.next in
     λ again. (rw (c.in_ok-push.ensures.ok) (subst IsOfRun (flowed_first _ _ next) (of_run_flowed _ kept.0)), kept.1, kept.2)
