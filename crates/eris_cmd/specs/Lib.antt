@@ -1,6 +1,8 @@
 pub mod Bytes
+pub mod Calls
+pub mod Dues
 pub mod Statuses
-pub mod ThinLines
-pub mod ThinScript
 pub mod Texts
+pub mod ThinLines
 pub mod ThinRuns
+pub mod ThinScript

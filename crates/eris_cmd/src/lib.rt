@@ -2,6 +2,8 @@
 #![tactic(auto)]
 
 mod bytes;
+mod due;
+mod failure;
 mod lines;
 mod status;
 mod telling;

@@ -25,8 +25,10 @@ pub(crate) fn bad_script_text(
 
 // What is written where a source gives more than a script may have.
 #[tactic(auto, unfolding(crate::specs::Texts::too_large_text))]
-pub(crate) fn too_large_text() -> &'static [u8]
-    ensures { result.now ≡ too_large_text }
+pub(crate) fn too_large_text(alloc: Global) -> Result<Row<u8>, NoMemory>
+    ensures { IfOk result (λ text. text ≡ too_large_text) }
 {
-    b"too large: input\n"
+    let mut text = Row::new(alloc);
+    text.append(b"too large: input\n")?;
+    Ok(text)
 }
