@@ -1,3 +1,4 @@
+pub mod Answering
 pub mod LineCuts
-pub mod Runs
 pub mod LineRuns
+pub mod Runs

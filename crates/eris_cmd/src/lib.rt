@@ -2,6 +2,7 @@
 #![tactic(auto)]
 
 mod bytes;
+mod call;
 mod due;
 mod failure;
 mod lines;
@@ -11,4 +12,5 @@ mod texts;
 mod thin_line;
 mod thin_run;
 
+pub use call::eris_call;
 pub use status::Status;
