@@ -1,6 +1,9 @@
 pub mod ConfigLimits
 pub mod Configs
+pub mod Faults
+pub mod MemoryStreams
 pub mod Places
 pub mod Quorums
 pub mod StampPlaces
 pub mod Stamps
+pub mod Transfers

@@ -1,5 +1,5 @@
-use Rattle.std.specs.Prelude.{ℕ, ◌+◌, ◌*◌, ◌%◌, Bool, true, false, List, [], ◌∷◌, ◌==◌, nat_lt, if◌then◌else◌}
-use Rattle.std.specs.List.{list_any}
+use Rattle.std.specs.Prelude.{ℕ, ◌+◌, ◌*◌, ◌%◌, Bool, List, ◌==◌, nat_lt}
+use Rattle.std.specs.Set.{distinct_count, is_member}
 use Rattle.eris_base.specs.declared.ids.ReplicaId.{ReplicaId}
 use Rattle.eris_base.specs.declared.ids.View.{View}
 
@@ -7,14 +7,17 @@ use Rattle.eris_base.specs.declared.ids.View.{View}
 abbrev pub learner_of : View → ℕ → ReplicaId
 learner_of view f = record { 0 = view.0 % (2 * f + 1) }
 
+-- the two are one replica
+abbrev pub same_replica : ReplicaId → ReplicaId → Bool
+same_replica one another = one.0 == another.0
+
+-- the replica is listed
 abbrev pub has_replica : List ReplicaId → ReplicaId → Bool
-has_replica replicas replica = list_any (λ other. other.0 == replica.0) replicas
+has_replica replicas replica = is_member same_replica replicas replica
 
 -- how many different replicas are listed
 abbrev pub different_replicas : List ReplicaId → ℕ
-different_replicas [] = 0
-different_replicas (replica ∷ replicas) =
-    if has_replica replicas replica then different_replicas replicas else different_replicas replicas + 1
+different_replicas replicas = distinct_count same_replica replicas
 
 -- at least f+1 different replicas are listed
 abbrev pub are_quorum : List ReplicaId → ℕ → Bool

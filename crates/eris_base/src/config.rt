@@ -61,7 +61,7 @@ impl Config {
         Ok(Config { shards, f, clients })
     }
 
-    /// How many shards there are, 1 to 64.
+    /// How many shards there are, 1 to 64. It takes no memory.
     pub fn shards(&self) -> u8
         ensures exact { result ≡ self.now.shards }
         ensures fits { IsConfig self.now }
@@ -69,7 +69,7 @@ impl Config {
         self.shards
     }
 
-    /// How many faults each shard of 2f+1 replicas outlives, 0 to 3.
+    /// How many faults each shard of 2f+1 replicas outlives, 0 to 3. It takes no memory.
     pub fn f(&self) -> u8
         ensures exact { result ≡ self.now.f }
         ensures fits { IsConfig self.now }
@@ -77,7 +77,7 @@ impl Config {
         self.f
     }
 
-    /// How many clients there are, 1 to 128.
+    /// How many clients there are, 1 to 128. It takes no memory.
     pub fn clients(&self) -> u8
         ensures exact { result ≡ self.now.clients }
         ensures fits { IsConfig self.now }

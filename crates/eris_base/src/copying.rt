@@ -7,12 +7,16 @@ use std::alloc::Global;
 
 /// What can be copied, which may take memory.
 pub trait Dup: Drop {
-    /// An equal value.
+    /// An equal value, which keeps `alloc` where it has a list.
+    ///
+    /// # Errors
+    ///
+    /// [`NoMemory`] where an allocation was refused.
     fn copy(&self, alloc: Global) -> Result<Self, NoMemory>
         ensures { IfOk result (λ made. made ≡ self.now) };
 }
 
-/// What can be compared exactly, also where a comparison can't be derived.
+/// What can be compared exactly, also where a comparison can't be derived. It takes no memory.
 pub trait Same {
     /// Whether the two are equal.
     fn same(&self, other: &Self) -> bool

@@ -4,6 +4,7 @@ ghost use Rattle.eris_base.specs.Quorums.{learner_of, has_replica, different_rep
 use crate::ids::{ReplicaId, View};
 
 /// The designated learner of a view among 2f+1 replicas: the one whose number is the view modulo 2f+1.
+/// It needs an `f` of at most 3, and takes no memory.
 pub fn learner(view: View, f: u8) -> ReplicaId
     requires { f ≤ 3 }
     ensures { result ≡ learner_of view f }
@@ -11,7 +12,7 @@ pub fn learner(view: View, f: u8) -> ReplicaId
     ReplicaId((view.0 % (2 * f as u32 + 1)) as u8)
 }
 
-/// Whether at least f+1 different replicas are listed.
+/// Whether at least f+1 different replicas are listed. It takes no memory.
 pub fn is_quorum(replicas: &[ReplicaId], f: u8) -> bool
     ensures { result ≡ are_quorum replicas.now f }
 {
@@ -36,5 +37,5 @@ fn count_different(replicas: &[ReplicaId]) -> usize
 fn lists(replicas: &[ReplicaId], replica: ReplicaId) -> bool
     ensures { result ≡ has_replica replicas.now replica }
 {
-    replicas.iter().any(|other| *other == replica)
+    replicas.iter().any(|other| replica == *other)
 }

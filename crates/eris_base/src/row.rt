@@ -53,14 +53,14 @@ impl<T> Row<T> {
         self.items.as_slice()
     }
 
-    /// How many items there are.
+    /// How many items there are. It takes no memory.
     pub fn len(&self) -> usize
         ensures { result ≡ length self.now }
     {
         self.items.len()
     }
 
-    /// Whether there is no item.
+    /// Whether there is no item. It takes no memory.
     pub fn is_empty(&self) -> bool
         ensures { result ≡ (length self.now == 0) }
     {
@@ -78,8 +78,8 @@ impl<T: Drop> Row<T> {
         Ok(())
     }
 
-    /// Puts the item before the one at `at`, or at the end. After [`NoMemory`] the row is as before and
-    /// the item is dropped.
+    /// Puts the item before the one at `at`, or at the end where `at` is the length; it needs an `at` of
+    /// at most the length. After [`NoMemory`] the row is as before and the item is dropped.
     pub fn insert(&mut self, at: usize, item: T) -> Result<(), NoMemory>
         requires { at ≤ length self.old }
         ensures ok { OnOk result (self.new ≡ insert self.old at item) }

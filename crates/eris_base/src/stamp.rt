@@ -33,7 +33,7 @@ impl Model for Stamp {
 impl Stamp {
     ghost use Rattle.eris_base.specs.StampPlaces.{has_place};
 
-    /// The shards and their numbers, shards strictly ascending, at least one.
+    /// The shards and their numbers, shards strictly ascending, at least one. It takes no memory.
     pub fn places(&self) -> &[(ShardId, u32)]
         ensures exact { result.now ≡ self.now.places }
         ensures fits { IsTrue (are_stamp_places self.now.places) }
@@ -41,7 +41,8 @@ impl Stamp {
         self.places.as_slice()
     }
 
-    /// The number that the stamp gives the shard. None exactly where it doesn't name the shard.
+    /// The number that the stamp gives the shard. None exactly where it doesn't name the shard. It takes
+    /// no memory.
     pub fn number_of(&self, shard: ShardId) -> Option<u32>
         ensures { result ≡ number_in self.now.places shard }
     {
@@ -52,7 +53,7 @@ impl Stamp {
             .map(|place| place.1)
     }
 
-    /// Whether the place's epoch, shard and number are in the stamp.
+    /// Whether the place's epoch, shard and number are in the stamp. It takes no memory.
     pub fn has(&self, place: Place) -> bool
         ensures { result ≡ has_place self.now place }
     {

@@ -1,6 +1,12 @@
+pub mod Bodies
+pub mod BodyFaults
 pub mod Keys
-pub mod Names
 pub mod NameCells
+pub mod Names
 pub mod Operations
+pub mod PlanFacts
+pub mod PlanFaults
 pub mod PlanValues
 pub mod Plans
+pub mod Sizes
+pub mod KeyValues

@@ -9,17 +9,24 @@ mod key;
 mod lock;
 mod name;
 mod op;
+mod operation;
 mod packet;
 mod plan;
 mod txn;
+mod values;
 
 pub use answer::Answer;
-pub use body::Body;
+pub use body::{Body, BodyFault, participants};
 pub use history::HistoryEvent;
 pub use key::Key;
 pub use lock::{Lock, Mode};
 pub use name::Name;
 pub use op::{Op, OpAnswer};
+pub use operation::apply_op;
 pub use packet::Packet;
-pub use plan::{Guard, How, Plan, Setting, Write};
+pub use plan::{Guard, How, Plan, PlanFault, Setting, Write};
 pub use txn::Txn;
+pub use values::KeyValues;
+
+#[cfg(test)]
+mod tests;

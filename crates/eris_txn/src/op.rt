@@ -1,4 +1,8 @@
+ghost use Rattle.std.specs.Prelude.{◌≡◌};
+
 use crate::key::Key;
+use eris_base::{Dup, NoMemory, Same};
+use std::alloc::Global;
 
 /// An operation on the value of one key.
 #[derive(Clone, Copy, Debug, PartialEq, Eq)]
@@ -28,4 +32,42 @@ pub enum OpAnswer {
     Yes,
     /// There was none, or it didn't.
     No,
+}
+
+impl Op {
+    ghost use Rattle.eris_txn.specs.Operations.{key_of};
+
+    /// The key whose value the operation reads or changes. It takes no memory.
+    pub fn key(&self) -> &Key
+        ensures { result.now ≡ key_of self.now }
+    {
+        match self {
+            Op::Get(key) | Op::Put(key, _) | Op::Del(key) | Op::Add(key, _) | Op::Cas(key, _, _) =>
+                key,
+        }
+    }
+}
+
+impl Dup for Op {
+    fn copy(&self, _: Global) -> Result<Op, NoMemory> {
+        Ok(*self)
+    }
+}
+
+impl Same for Op {
+    fn same(&self, other: &Op) -> bool {
+        self == other
+    }
+}
+
+impl Dup for OpAnswer {
+    fn copy(&self, _: Global) -> Result<OpAnswer, NoMemory> {
+        Ok(*self)
+    }
+}
+
+impl Same for OpAnswer {
+    fn same(&self, other: &OpAnswer) -> bool {
+        self == other
+    }
 }

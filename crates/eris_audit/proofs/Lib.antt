@@ -1,0 +1,5 @@
+pub mod Examples
+pub mod Follows
+pub mod Places
+pub mod RunPlaces
+pub mod SameIds

@@ -1,0 +1,4 @@
+pub mod Answering
+pub mod LineCuts
+pub mod LineRuns
+pub mod Runs

@@ -1,0 +1,16 @@
+//! The top call: from the words of a command line, the bytes of a source and a sink to a status.
+#![tactic(auto)]
+
+mod bytes;
+mod call;
+mod due;
+mod failure;
+mod lines;
+mod status;
+mod telling;
+mod texts;
+mod thin_line;
+mod thin_run;
+
+pub use call::eris_call;
+pub use status::Status;

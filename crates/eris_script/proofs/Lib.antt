@@ -1,0 +1,4 @@
+pub mod DecimalLaws
+mod DigitLemmas
+mod LineLemmas
+mod ReadLemmas

@@ -1,0 +1,9 @@
+pub mod Decimal
+pub mod HistoryText
+pub mod OpText
+pub mod OrderText
+pub mod PlanText
+pub mod Reasons
+pub mod ReplicaText
+pub mod ReportText
+pub mod Words

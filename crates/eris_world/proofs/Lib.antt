@@ -1,0 +1,10 @@
+mod ThinQueue
+mod ThinJobs
+mod ThinCourse
+mod ThinLines
+mod ThinHistory
+mod ThinLaw
+mod ThinValues
+mod ThinCounts
+mod ThinSteps
+mod ThinReports
