@@ -1,10 +1,14 @@
+ghost use Rattle.std.specs.Prelude.{◌≡◌, IfOk};
+
 use crate::*;
 use eris_base::{ClientId, Dup, Epoch, NoMemory, Row, Same, ShardId, Stamp, TxnId};
 use std::alloc::Global;
 use std::process::Abort;
 use std::test::Fail;
 
-fn row<T: Copy>(alloc: Global, items: &[T]) -> Result<Row<T>, NoMemory> {
+fn row<T: Copy>(alloc: Global, items: &[T]) -> Result<Row<T>, NoMemory>
+    ensures { IfOk result (λ made. made ≡ items.now) }
+{
     let mut made = Row::new(alloc);
     made.append(items)?;
     Ok(made)
@@ -85,113 +89,16 @@ fn operations_leave_and_answer_by_their_table(rt: HostRuntime) {
     }
 }
 
-#[test]
-fn a_plan_locks_and_writes_by_its_settings(rt: HostRuntime) -> Result<(), Fail> {
-    let alloc = rt.alloc();
-    let a = key(&rt, 0, b"a");
-    let b = key(&rt, 1, b"b");
-    let c = key(&rt, 1, b"c");
-    let (from, to, read) = (&a, &b, &c);
-    let plan = Plan::new(
-        alloc,
-        row(alloc, &[*to, *from, *read])?,
-        row(
-            alloc,
-            &[Guard {
-                key: *from,
-                least: 30,
-            }],
-        )?,
-        row(
-            alloc,
-            &[
-                Setting {
-                    key: *from,
-                    how: How::Minus(30),
-                },
-                Setting {
-                    key: *to,
-                    how: How::Plus(30),
-                },
-            ],
-        )?,
-    )?;
-    let locks = plan.locks()?;
-    let wanted = [
-        Lock {
-            key: *to,
-            mode: Mode::Exclusive,
-        },
-        Lock {
-            key: *from,
-            mode: Mode::Exclusive,
-        },
-        Lock {
-            key: *read,
-            mode: Mode::Shared,
-        },
-    ];
-    assert_eq!(rt; locks.as_slice(), wanted.as_slice());
-    assert_eq!(rt;
-        participants(alloc, &Body::Prelim(locks))?.as_slice(),
-        [ShardId(0), ShardId(1)].as_slice()
-    );
-    let writes = plan.writes(&[Some(5), Some(30), None])?.ok_or("no writes")?;
-    assert_eq!(rt;
-        writes.as_slice(),
-        [
-            Write {
-                key: *from,
-                value: 0
-            },
-            Write {
-                key: *to,
-                value: 35
-            }
-        ]
-        .as_slice()
-    );
-    assert!(rt; plan.writes(&[Some(5), Some(29), None])?.is_none());
-    assert!(rt; plan.writes(&[Some(5), None, None])?.is_none());
-
-    let below = Plan::new(
-        alloc,
-        row(alloc, &[*from])?,
-        row(
-            alloc,
-            &[Guard {
-                key: *from,
-                least: 0,
-            }],
-        )?,
-        row(
-            alloc,
-            &[Setting {
-                key: *from,
-                how: How::Minus(1),
-            }],
-        )?,
-    )?;
-    let writes = below.writes(&[None])?.ok_or("no writes")?;
-    assert_eq!(rt;
-        writes.as_slice(),
-        [Write {
-            key: *from,
-            value: u64::MAX
-        }]
-        .as_slice()
-    );
-    assert_eq!(rt; below.keys().len(), 1);
-    assert_eq!(rt;
-        below.guards(),
-        [Guard {
-            key: *from,
-            least: 0
-        }]
-        .as_slice()
-    );
-    assert_eq!(rt; below.settings().len(), 1);
-    Ok(())
+fn plan_of(
+    alloc: Global,
+    keys: &[Key],
+    guards: &[Guard],
+    settings: &[Setting],
+) -> Result<Result<Plan, PlanFault>, NoMemory> {
+    let keys = row(alloc, keys)?;
+    let guards = row(alloc, guards)?;
+    let settings = row(alloc, settings)?;
+    Ok(Plan::new(alloc, keys, guards, settings))
 }
 
 fn many(rt: &impl Abort, alloc: Global, count: u8) -> Result<Row<Key>, NoMemory> {
@@ -203,90 +110,128 @@ fn many(rt: &impl Abort, alloc: Global, count: u8) -> Result<Row<Key>, NoMemory>
 }
 
 #[test]
-fn plans_and_bodies_are_refused_by_the_first_fault(rt: HostRuntime) -> Result<(), Fail> {
+fn a_plan_is_refused_by_its_first_fault(rt: HostRuntime) -> Result<(), Fail> {
     let alloc = rt.alloc();
     let a = key(&rt, 0, b"a");
     let b = key(&rt, 0, b"b");
     let (one, other) = (&a, &b);
-    let rows = [
+    let set = Setting {
+        key: *other,
+        how: How::Put(1),
+    };
+    let put = &set;
+    let most = many(&rt, alloc, 32)?;
+    let more = many(&rt, alloc, 33)?;
+    let guards = [Guard {
+        key: *one,
+        least: 1,
+    }; 33];
+    let rows: [(&[Key], &[Guard], &[Setting], Option<PlanFault>); 8] = [
+        (more.as_slice(), &[], &[], Some(PlanFault::TooMany)),
+        (&[], &guards, &[], Some(PlanFault::TooMany)),
+        (&[], &guards[..32], &[*put, *put], Some(PlanFault::Empty)),
         (
-            many(&rt, alloc, 33)?,
-            0,
-            row(alloc, &[])?,
-            Some(PlanFault::TooMany),
-        ),
-        (
-            row(alloc, &[])?,
-            33,
-            row(alloc, &[])?,
-            Some(PlanFault::TooMany),
-        ),
-        (
-            row(alloc, &[])?,
-            1,
-            row(alloc, &[*one])?,
-            Some(PlanFault::Empty),
-        ),
-        (
-            row(alloc, &[*one, *other, *one])?,
-            0,
-            row(alloc, &[])?,
+            &[*one, *other, *one],
+            &[],
+            &[],
             Some(PlanFault::RepeatedKey),
         ),
+        (&[*one], &[], &[*put, *put], Some(PlanFault::RepeatedKey)),
+        (&[*one], &[], &[*put], Some(PlanFault::UnlockedKey)),
         (
-            row(alloc, &[*one])?,
-            0,
-            row(alloc, &[*other, *other])?,
-            Some(PlanFault::RepeatedKey),
-        ),
-        (
-            row(alloc, &[*one])?,
-            0,
-            row(alloc, &[*other])?,
+            &[*other],
+            &guards[..1],
+            &[*put],
             Some(PlanFault::UnlockedKey),
         ),
-        (
-            row(alloc, &[*other])?,
-            1,
-            row(alloc, &[*other])?,
-            Some(PlanFault::UnlockedKey),
-        ),
-        (many(&rt, alloc, 32)?, 0, row(alloc, &[])?, None),
-        (
-            row(alloc, &[*other, *one])?,
-            32,
-            row(alloc, &[*one, *other])?,
-            None,
-        ),
+        (most.as_slice(), &[], &[], None),
     ];
-    for (keys, guards, set, fault) in rows {
-        let mut settings = Row::new(alloc);
-        for key in set.as_slice() {
-            settings.push(Setting {
-                key: *key,
-                how: How::Put(1),
-            })?;
-        }
-        let mut guarded = Row::new(alloc);
-        for _ in 0..guards {
-            guarded.push(Guard {
-                key: *one,
-                least: 1,
-            })?;
-        }
-        assert_eq!(rt; Plan::new(alloc, keys, guarded, settings).err(), fault);
+    for row in &rows {
+        assert_eq!(rt; plan_of(alloc, row.0, row.1, row.2)?.err(), row.3);
     }
+    Ok(())
+}
+
+fn transfer(rt: &impl Abort, alloc: Global) -> Result<Result<Plan, PlanFault>, NoMemory> {
+    let a = key(rt, 0, b"a");
+    let b = key(rt, 1, b"b");
+    let c = key(rt, 1, b"c");
+    let (from, to, read) = (&a, &b, &c);
+    let guards = [Guard {
+        key: *from,
+        least: 30,
+    }];
+    let settings = [
+        Setting {
+            key: *from,
+            how: How::Minus(30),
+        },
+        Setting {
+            key: *to,
+            how: How::Plus(30),
+        },
+    ];
+    plan_of(alloc, &[*to, *from, *read], &guards, &settings)
+}
+
+#[test]
+fn a_key_that_is_only_read_is_locked_shared(rt: HostRuntime) -> Result<(), Fail> {
+    let alloc = rt.alloc();
+    let plan = transfer(&rt, alloc)??;
+    let locks = plan.locks()?;
+    let modes = [Mode::Exclusive, Mode::Exclusive, Mode::Shared];
+    assert_eq!(rt;
+        (locks.len(), plan.guards().len(), plan.settings().len()),
+        (3, 1, 2)
+    );
+    for (at, lock) in locks.as_slice().iter().enumerate() {
+        assert!(rt; at < 3);
+        assert_eq!(rt; lock.mode, modes[at]);
+    }
+    let shards = participants(alloc, &Body::Prelim(locks))?;
+    assert_eq!(rt; shards.as_slice(), [ShardId(0), ShardId(1)].as_slice());
+    Ok(())
+}
+
+#[test]
+fn a_transfer_commits_only_where_its_guard_holds(rt: HostRuntime) -> Result<(), Fail> {
+    let alloc = rt.alloc();
+    let plan = transfer(&rt, alloc)??;
+    for (have, commits) in [(Some(30), true), (Some(29), false), (None, false)] {
+        assert_eq!(rt; plan.writes(&[Some(5), have, None])?.is_some(), commits);
+    }
+    let writes = plan.writes(&[Some(5), Some(30), None])?.ok_or("no writes")?;
+    let values = [0, 35];
+    assert_eq!(rt; writes.len(), 2);
+    for (at, write) in writes.as_slice().iter().enumerate() {
+        assert!(rt; at < 2);
+        assert_eq!(rt; write.value, values[at]);
+    }
+    Ok(())
+}
+
+fn independent_of(
+    alloc: Global,
+    key: &Key,
+    count: usize,
+) -> Result<Result<Body, BodyFault>, NoMemory> {
+    let mut ops = Row::new(alloc);
+    for _ in 0..count {
+        ops.push(Op::Get(*key))?;
+    }
+    Ok(Body::independent(ops))
+}
+
+#[test]
+fn a_body_has_1_to_32_operations(rt: HostRuntime) -> Result<(), Fail> {
+    let a = key(&rt, 0, b"a");
     for (count, fault) in [
         (0, Some(BodyFault::Empty)),
         (1, None),
         (32, None),
         (33, Some(BodyFault::TooMany)),
     ] {
-        let mut ops = Row::new(alloc);
-        for _ in 0..count {
-            ops.push(Op::Get(*one))?;
-        }
-        assert_eq!(rt; Body::independent(ops).err(), fault);
+        assert_eq!(rt; independent_of(rt.alloc(), &a, count)?.err(), fault);
     }
     Ok(())
 }
@@ -297,108 +242,59 @@ fn copies<T: Dup + Same>(rt: &impl Abort, alloc: Global, value: &T) -> Result<()
     Ok(())
 }
 
-#[test]
-fn copies_are_equal_and_others_differ(rt: HostRuntime) -> Result<(), Fail> {
-    let alloc = rt.alloc();
-    let a = key(&rt, 0, b"a");
-    let one = &a;
-    let id = TxnId {
-        client: ClientId(0),
-        number: 1,
-    };
-    let plan = Plan::new(
+fn bodies(alloc: Global, key: &Key) -> Result<Row<Body>, NoMemory> {
+    let mut bodies = Row::new(alloc);
+    bodies.push(Body::Independent(row(alloc, &[Op::Get(*key)])?))?;
+    bodies.push(Body::Prelim(row(
         alloc,
-        row(alloc, &[*one])?,
-        row(
-            alloc,
-            &[Guard {
-                key: *one,
-                least: 1,
-            }],
-        )?,
-        row(
-            alloc,
-            &[Setting {
-                key: *one,
-                how: How::Plus(1),
-            }],
-        )?,
-    )?;
-    copies(&rt, alloc, &plan)?;
-    copies(&rt, alloc, &HistoryEvent::Submit(id, Txn::General(plan)))?;
-    copies(
-        &rt,
-        alloc,
-        &HistoryEvent::Submit(id, Txn::Whole(row(alloc, &[Op::Get(*one)])?)),
-    )?;
-    copies(
-        &rt,
-        alloc,
-        &HistoryEvent::Read(id, row(alloc, &[Some(1), None])?),
-    )?;
-    copies(
-        &rt,
-        alloc,
-        &HistoryEvent::Answer(id, Answer::Ops(row(alloc, &[OpAnswer::Done])?)),
-    )?;
-    copies(
-        &rt,
-        alloc,
-        &HistoryEvent::Told(ClientId(1), id, Answer::Aborted),
-    )?;
-    copies(&rt, alloc, &Answer::Values(row(alloc, &[Some(1), None])?))?;
-    copies(
-        &rt,
-        alloc,
-        &Body::Independent(row(alloc, &[Op::Get(*one)])?),
-    )?;
-    copies(
-        &rt,
-        alloc,
-        &Body::Prelim(row(
-            alloc,
-            &[Lock {
-                key: *one,
-                mode: Mode::Shared,
-            }],
-        )?),
-    )?;
-    copies(&rt, alloc, &Body::Abort(row(alloc, &[*one])?))?;
-    let packet = Packet {
+        &[Lock {
+            key: *key,
+            mode: Mode::Shared,
+        }],
+    )?))?;
+    bodies.push(Body::Abort(row(alloc, &[*key])?))?;
+    Ok(bodies)
+}
+
+fn commit(alloc: Global, key: &Key, value: u64) -> Result<Packet, NoMemory> {
+    let keys = row(alloc, &[*key])?;
+    let writes = row(alloc, &[Write { key: *key, value }])?;
+    Ok(Packet {
         stamp: Stamp {
             epoch: Epoch(0),
             places: row(alloc, &[(ShardId(0), 1)])?,
         },
-        id,
+        id: TxnId {
+            client: ClientId(0),
+            number: 1,
+        },
         asker: ClientId(0),
-        body: Body::Commit(
-            row(alloc, &[*one])?,
-            row(
-                alloc,
-                &[Write {
-                    key: *one,
-                    value: 1,
-                }],
-            )?,
-        ),
+        body: Body::Commit(keys, writes),
+    })
+}
+
+fn events(alloc: Global, id: TxnId, key: &Key, plan: Plan) -> Result<Row<HistoryEvent>, NoMemory> {
+    let mut events = Row::new(alloc);
+    events.push(HistoryEvent::Submit(id, Txn::General(plan)))?;
+    events.push(HistoryEvent::Submit(id, Txn::Whole(row(alloc, &[Op::Get(*key)])?)))?;
+    events.push(HistoryEvent::Read(id, row(alloc, &[Some(1), None])?))?;
+    events.push(HistoryEvent::Answer(id, Answer::Ops(row(alloc, &[OpAnswer::Done])?)))?;
+    events.push(HistoryEvent::Told(ClientId(1), id, Answer::Aborted))?;
+    Ok(events)
+}
+
+#[test]
+fn copies_are_equal_and_other_values_differ(rt: HostRuntime) -> Result<(), Fail> {
+    let alloc = rt.alloc();
+    let a = key(&rt, 0, b"a");
+    let id = TxnId {
+        client: ClientId(0),
+        number: 1,
     };
-    copies(&rt, alloc, &packet)?;
-    let other = Packet {
-        stamp: packet.stamp.copy(alloc)?,
-        id,
-        asker: ClientId(0),
-        body: Body::Commit(
-            row(alloc, &[*one])?,
-            row(
-                alloc,
-                &[Write {
-                    key: *one,
-                    value: 2,
-                }],
-            )?,
-        ),
-    };
-    assert!(rt; !packet.same(&other));
+    copies(&rt, alloc, &bodies(alloc, &a)?)?;
+    copies(&rt, alloc, &commit(alloc, &a, 1)?)?;
+    copies(&rt, alloc, &events(alloc, id, &a, transfer(&rt, alloc)??)?)?;
+    assert!(rt; !commit(alloc, &a, 1)?.same(&commit(alloc, &a, 2)?));
     assert!(rt; !Answer::Committed.same(&Answer::Aborted));
     Ok(())
 }
