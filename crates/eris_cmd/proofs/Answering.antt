@@ -33,7 +33,7 @@ reports_what {taken = taken} {taken' = taken'} bytes text false (Ok events) law 
       world = world;
       ran = ran;
       good = law events world ran;
-      written = subst (λ text. Appends taken taken' text) same written
+      written = subst (λ text. Appends taken taken' text) same written;
     }
 
 -- where the status due is Done, a run was reported
@@ -53,9 +53,10 @@ same_head : (bytes word : List ℕ) → bytes ∷ [] ≡ word ∷ [] → bytes �
 same_head bytes word alone = cc
 
 is_the_word : (bytes word : List ℕ) (test : Bool) → test ≡ bytes_eq bytes word → IsTrue test ↔ (bytes ∷ [] ≡ word ∷ [])
-is_the_word bytes word test tests =
-    (λ yes. ap (λ text. text ∷ []) ((bytes_eq-Decides bytes word).0 (sym tests ∙ yes)),
-     λ alone. tests ∙ (bytes_eq-Decides bytes word).1 (same_head bytes word alone))
+is_the_word bytes word test tests = (
+  λ yes. ap (λ text. text ∷ []) ((bytes_eq-Decides bytes word).0 (sym tests ∙ yes)),
+  λ alone. tests ∙ (bytes_eq-Decides bytes word).1 (same_head bytes word alone),
+)
 
 -- one word alone is another, exactly where their bytes are the same
 pub is_word_alone : {X : Type 0} (spelled : X → List ℕ) (xs : List X) (x : X) (word : List ℕ) (test : Bool)

@@ -53,7 +53,7 @@ none_run before text unspent = record {
   same = before_none (events_from 2 (lines text));
   taken = record { ran = refl; unspent = unspent; few = omega arith };
   within = omega arith;
-  few = omega arith
+  few = omega arith;
 }
 
 -- the first line of the rest was taken
@@ -63,10 +63,10 @@ pub one_more_run : {before now next : KeptWorld} {text rest line : List ℕ} {nu
 one_more_run {before} {now} {next} {text} {rest} {line} {number} more run first shorter took = record {
   done = run.done ++ events_of took.said;
   same = run.same ∙ ap (with_events run.done) (ap (events_from number) first ∙ at_taken number line (lines more) took.said took.says)
-    ∙ one_then_other run.done (events_of took.said) (events_from (number + 1) (lines more));
+      ∙ one_then_other run.done (events_of took.said) (events_from (number + 1) (lines more));
   taken = takes_fewer (takes_both run.taken took.taken) (let within = run.within in omega arith);
   within = let within = run.within in omega arith;
-  few = let few = run.few in omega arith
+  few = let few = run.few in omega arith;
 }
 
 -- every line was taken
@@ -74,7 +74,7 @@ pub all_run : {before now : KeptWorld} {text rest : List ℕ} {number : ℕ} →
 all_run {before} {now} {text} {rest} {number} run none = record {
   events = run.done;
   asked = run.same ∙ ap (λ left. with_events run.done (events_from number (lines left))) none ∙ at_end number run.done;
-  taken = takes_fewer run.taken (omega arith)
+  taken = takes_fewer run.taken (omega arith);
 }
 
 -- the first line of the rest has no form
@@ -133,5 +133,5 @@ after_script {text} {rest} {before} {world} fresh same taken = record {
   events = taken.events;
   is_script = same ∙ taken.asked;
   ran = ap (λ kept. run_from kept.state taken.events) (sym fresh) ∙ taken.taken.ran;
-  unspent = taken.taken.unspent
+  unspent = taken.taken.unspent;
 }

@@ -26,7 +26,7 @@ pub takes_both : {a b c : KeptWorld} {xs ys : List Event} {m n : ℕ} → Takes 
 takes_both {a} {b} {c} {xs} {ys} first second = record {
   ran = run_append a.state b.state xs ys first.ran ∙ second.ran;
   unspent = second.unspent;
-  few = let one = first.few in let two = second.few in omega arith
+  few = let one = first.few in let two = second.few in omega arith;
 }
 
 -- where nothing waits, flows leave the world as it is
@@ -50,5 +50,5 @@ pub takes_rest : {a b : KeptWorld} (n times : ℕ) → Takes a b (replicate n Fl
 takes_rest {a} {b} n times taken within none =
     let all : times ≡ n + (times - n) = omega arith in
     let idle : Takes b b (replicate (times - n) Flow) 0 =
-      record { ran = flows_idle b.state (times - n) (none_first _ none); unspent = taken.unspent; few = omega arith } in
+    record { ran = flows_idle b.state (times - n) (none_first _ none); unspent = taken.unspent; few = omega arith } in
     rw all (rw (split_flows n (times - n)) (takes_both taken idle))

@@ -29,8 +29,9 @@ is_skipped (first ∷ more) = first == 35
 -- `submit 0 put 0/NAME N` or `flow N`; None where the line has neither form
 unfoldable pub asked_by : List ℕ → Option ThinLine
 asked_by line = elim (behind (codes "submit 0 put 0/") line) [
-  Some words ↦ put_of words |
-  None ↦ option_and_then flow_of (behind (codes "flow ") line) ]
+  | Some words ↦ put_of words
+  | None ↦ option_and_then flow_of (behind (codes "flow ") line)
+]
 
 unfoldable pub line_of : List ℕ → Option ThinLine
 line_of line = if is_skipped line then Some Skip else asked_by line

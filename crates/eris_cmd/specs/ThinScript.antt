@@ -46,8 +46,9 @@ with_events events (Err bad) = Err bad
 unfoldable pub events_from : ℕ → List (List ℕ) → Result (List Event) BadLine
 events_from number [] = Ok []
 events_from number (line ∷ lines) = elim (line_of line) [
-  Some said ↦ with_events (events_of said) (events_from (number + 1) lines) |
-  None ↦ Err (record { line = number; reason = Word }) ]
+  | Some said ↦ with_events (events_of said) (events_from (number + 1) lines)
+  | None ↦ Err (record { line = number; reason = Word })
+]
 
 abbrev pub no_header : Result (List Event) BadLine
 no_header = Err (record { line = 1; reason = Header })

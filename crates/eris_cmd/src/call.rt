@@ -38,7 +38,7 @@ pub fn eris_call<S: Source, K: Sink>(
         → Rose (S.faults src.old) (S.faults src.new) × (snk.new ≡ snk.old) }
     ensures write_fault { result ≡ Status.WriteFault
         → Rose (K.faults snk.old) (K.faults snk.new)
-            × StopsWriting (S.left src.old) (S.left src.new) (K.taken snk.old) (K.taken snk.new) }
+        × StopsWriting (S.left src.old) (S.left src.new) (K.taken snk.old) (K.taken snk.new) }
     ensures no_memory { result ≡ Status.NoMemory → K.taken snk.new ≡ K.taken snk.old }
     ensures never { result ≢ Status.CheckedNo }
 

@@ -8,6 +8,8 @@ mod failure;
 mod lines;
 mod status;
 mod telling;
+#[cfg(test)]
+mod tests;
 mod texts;
 mod thin_line;
 mod thin_run;

@@ -7,11 +7,7 @@ use std::alloc::Global;
 
 // What is written for a script that is refused at this line.
 #[tactic(auto, unfolding(crate::specs::Texts::bad_script_text))]
-pub(crate) fn bad_script_text(
-    alloc: Global,
-    line: u32,
-    reason: Reason,
-) -> Result<Row<u8>, NoMemory>
+pub(crate) fn bad_script_text(alloc: Global, line: u32, reason: Reason) -> Result<Row<u8>, NoMemory>
     ensures { IfOk result (λ text. text ≡ bad_script_text line reason) }
 {
     let mut text = Row::new(alloc);

@@ -50,5 +50,7 @@ fn read_flow(word: &[u8]) -> Option<ThinLine>
     ensures { result ≡ flow_of word.now }
 {
     let times = read_number(word, u64::from(u32::MAX))?;
-    Some(ThinLine::Flow { times: times as u32 })
+    Some(ThinLine::Flow {
+        times: times as u32,
+    })
 }
