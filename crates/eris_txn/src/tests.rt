@@ -298,3 +298,21 @@ fn copies_are_equal_and_other_values_differ(rt: HostRuntime) -> Result<(), Fail>
     assert!(rt; !Answer::Committed.same(&Answer::Aborted));
     Ok(())
 }
+
+#[test]
+fn values_are_kept_by_key(rt: HostRuntime) -> Result<(), Fail> {
+    let alloc = rt.alloc();
+    let a = key(&rt, 0, b"a");
+    let b = key(&rt, 0, b"b");
+    let mut values = KeyValues::new(alloc);
+    values.put(a, 7)?;
+    let sum = values.apply(&Op::Add(a, 5))?;
+    assert_eq!(rt; sum, OpAnswer::Value(12));
+    let answers = values.apply_all(alloc, &[Op::Put(b, 1), Op::Get(a), Op::Del(b)])?;
+    let wanted = [OpAnswer::Done, OpAnswer::Value(12), OpAnswer::Yes];
+    assert_eq!(rt; answers.as_slice(), wanted.as_slice());
+    values.remove(&a);
+    assert_eq!(rt; values.value_of(&a), None);
+    assert_eq!(rt; values.value_of(&b), None);
+    Ok(())
+}
