@@ -1,6 +1,6 @@
 ghost use Rattle.std.specs.Prelude.{◌≡◌, ◌≤◌, Err, length, IfOk, IfSome};
 ghost use Rattle.eris_base.specs.Faults.{Rose};
-ghost use Rattle.eris_cmd.specs.Calls.{status_due};
+ghost use Rattle.eris_cmd.specs.Calls.{input_limit, status_due};
 ghost use Rattle.eris_cmd.specs.Dues.{IsDue, IsJudged};
 ghost use Rattle.eris_cmd.specs.Texts.{too_large_text};
 
@@ -17,7 +17,7 @@ const INPUT_LIMIT: usize = 4_194_304;
 
 /// The text that is due, and the status of a call that has written it.
 #[derive(Debug, Drop)]
-pub struct Due {
+pub(crate) struct Due {
     pub status: Status,
     pub text: Row<u8>,
 }
@@ -49,7 +49,7 @@ fn refuse_input(alloc: Global) -> Result<Due, NoMemory>
 
 // What is due for these bytes, which are few enough to be a script.
 fn judge(alloc: Global, bytes: &[u8]) -> Result<Due, NoMemory>
-    requires { length bytes.now ≤ 4194304 }
+    requires { length bytes.now ≤ input_limit }
     ensures { IfOk result (IsJudged bytes.now) }
 {
     match run_script(alloc, bytes) {

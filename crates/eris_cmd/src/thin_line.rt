@@ -8,7 +8,7 @@ use eris_txn::Name;
 // What a line behind the header says: nothing, that the client puts a value under a name, or that the
 // lowest waiting message is delivered, so many times.
 #[derive(Clone, Copy, Debug)]
-pub enum ThinLine {
+pub(crate) enum ThinLine {
     Skip,
     Put { name: Name, value: u64 },
     Flow { times: u32 },

@@ -1,5 +1,6 @@
 ghost use Rattle.std.specs.Prelude.{◌≡◌, ◌+◌, ◌*◌, ◌^◌, ◌<◌, ◌≤◌, [], ◌∷◌, Err, false, bytes_eq, codes, length, replicate, IfOk, IfErr, OnOk};
 ghost use Rattle.eris_world.specs.declared.thin_event.Event.TheVariants.{Flow as flow_event};
+ghost use Rattle.eris_cmd.specs.Calls.{input_limit};
 ghost use Rattle.eris_cmd.specs.ThinScript.{lines, events_of, events_from, put_event, script};
 ghost use Rattle.eris_cmd.specs.ThinRuns.{Takes, TakesLine, IsFormless, TakesLines, IsAfterScript, IfBad};
 
@@ -13,7 +14,7 @@ use std::alloc::Global;
 
 /// Why a script wasn't run to its end.
 #[derive(Clone, Copy, Debug, PartialEq, Eq)]
-pub enum Stop {
+pub(crate) enum Stop {
     /// This line, counted from 1, is the first that is refused.
     Bad { line: u32, reason: Reason },
     /// An allocation was refused.
@@ -131,7 +132,7 @@ fn is_header(line: &[u8]) -> bool
 
 // Runs a whole script, and answers the world after it.
 pub(crate) fn run_script(alloc: Global, text: &[u8]) -> Result<World, Stop>
-    requires { length text.now ≤ 4194304 }
+    requires { length text.now ≤ input_limit }
     ensures ok { IfOk result (IsAfterScript text.now) }
     ensures bad { IfErr result (λ stop. IfBad stop (λ line reason. script text.now ≡ Err (record { line = line; reason = reason }))) }
 {
