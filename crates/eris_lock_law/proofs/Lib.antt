@@ -1,0 +1,15 @@
+mod Ids
+mod Keys
+mod Each
+mod Log
+mod Order
+mod Prelims
+mod Fit
+mod Act
+mod Release
+mod Arrive
+mod Conclude
+mod Law
+mod Shape
+mod Stuck
+mod Final
