@@ -13,3 +13,6 @@ mod Law
 mod Shape
 mod Stuck
 mod Final
+mod Table
+mod Lost
+mod Once
