@@ -16,3 +16,4 @@ mod Final
 mod Table
 mod Lost
 mod Once
+mod Early
