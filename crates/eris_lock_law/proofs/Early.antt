@@ -417,12 +417,12 @@ module _ (E : TxnId → Type 0) (kind : TxnId → Bool) where
   after_conclude came p r n h = record { state = came_fewer came (came_with came p) r.state r.state.waiting (no_prelim came p n) h.state; dones = h.dones }
 
   steps_by : (b : Body) (came : TxnId → Bool) (s : StoreState) (p : ShardPacket) → p.body ≡ b → (is_conclusory b ≡ false → is_prelim b ≡ kind p.id)
-      → Early came s s.waiting → Ends came s p → EarlyStep (came_with came p) (step_by b s p)
+      → Early came s s.waiting → (phase_of p.body ≡ Phase.Conclude → Ends came s p) → EarlyStep (came_with came p) (step_by b s p)
   steps_by (Independent ops) came s p is k e ends = arrives came s p e (ap is_prelim is ∙ k refl)
   steps_by (Prelim ls) came s p is k e ends = arrives came s p e (ap is_prelim is ∙ k refl)
-  steps_by (Commit keys writes) came s p is k e ends = after_conclude came p (conclude s p Committed writes) (ap is_prelim is) (concludes came s p Committed writes (ap phase_of is) e ends)
-  steps_by (Abort keys) came s p is k e ends = after_conclude came p (conclude s p Aborted []) (ap is_prelim is) (concludes came s p Aborted [] (ap phase_of is) e ends)
+  steps_by (Commit keys writes) came s p is k e ends = after_conclude came p (conclude s p Committed writes) (ap is_prelim is) (concludes came s p Committed writes (ap phase_of is) e (ends (ap phase_of is)))
+  steps_by (Abort keys) came s p is k e ends = after_conclude came p (conclude s p Aborted []) (ap is_prelim is) (concludes came s p Aborted [] (ap phase_of is) e (ends (ap phase_of is)))
 
   pub early_step : (came : TxnId → Bool) (s : StoreState) (p : ShardPacket) → (is_conclusory p.body ≡ false → is_prelim p.body ≡ kind p.id)
-      → Early came s s.waiting → Ends came s p → EarlyStep (came_with came p) (step s p)
+      → Early came s s.waiting → (phase_of p.body ≡ Phase.Conclude → Ends came s p) → EarlyStep (came_with came p) (step s p)
   early_step came s p k e ends = steps_by p.body came s p refl k e ends

@@ -17,3 +17,4 @@ mod Table
 mod Lost
 mod Once
 mod Early
+mod Ended
