@@ -9,12 +9,12 @@ mod Act
 mod Release
 mod Arrive
 mod Conclude
-mod Law
+mod Runs
 mod Shape
 mod Stuck
-mod Final
 mod Table
-mod Lost
-mod Once
 mod Early
 mod Ended
+mod Final
+mod Lost
+mod Once

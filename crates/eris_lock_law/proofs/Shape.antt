@@ -2,7 +2,7 @@ use Rattle.eris_base.specs.declared.ids.ClientId.{ClientId}
 use Rattle.eris_base.specs.declared.ids.Place.{Place}
 use Rattle.eris_base.specs.declared.ids.TxnId.{TxnId}
 use Rattle.eris_lock_law.proofs.Ids.{same_id-from, same_id-true}
-use Rattle.eris_lock_law.proofs.Law.{Wf, WfHere, plain}
+use Rattle.eris_lock_law.proofs.Runs.{Wf, WfHere, plain}
 use Rattle.eris_locks.specs.Each.{Each}
 use Rattle.eris_locks.specs.LockTable.{step}
 use Rattle.eris_locks.specs.Locks.{alters}
@@ -92,3 +92,13 @@ wf_from all pre (p ∷ ps) s is a f = (
 
 pub wf_of : (ps : List ShardPacket) → WellFormed ps → Wf (kind_of ps) empty ps
 wf_of ps h = wf_from ps [] ps empty refl h.agree h.finds
+
+kinds_from : (all pre ps : List ShardPacket) → all ≡ pre ++ ps → Each (λ packet. AgreeWith packet all) ps → Each (λ p. is_conclusory p.body ≡ false → is_prelim p.body ≡ kind_of all p.id) ps
+kinds_from all pre [] is a = tt
+kinds_from all pre (p ∷ ps) is a = (
+  (λ plain. sym (subst (λ (l : List ShardPacket). kind_of l p.id ≡ is_prelim p.body) (sym is) (kind_fits pre p ps plain (subst (λ (l : List ShardPacket). AgreeWith p l) is a.0)))),
+  kinds_from all (pre ++ p ∷ []) ps (is ∙ sym (append_assoc pre (p ∷ []) ps)) a.1,
+)
+
+pub kinds_of : (ps : List ShardPacket) → WellFormed ps → Each (λ p. is_conclusory p.body ≡ false → is_prelim p.body ≡ kind_of ps p.id) ps
+kinds_of ps h = kinds_from ps [] ps refl h.agree

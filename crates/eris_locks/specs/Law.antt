@@ -1,4 +1,4 @@
-use Rattle.std.specs.Prelude.{◌≡◌, ◌⊎◌, true, false, Some, None, List, [], ◌∷◌, ◌++◌}
+use Rattle.std.specs.Prelude.{◌≡◌, ◌⊎◌, Bool, true, false, Some, None, List, [], ◌∷◌, ◌++◌, ⊤}
 use Rattle.std.specs.List.{list_any}
 use Rattle.eris_base.specs.declared.ids.Phase.{Phase}
 use Rattle.eris_base.specs.declared.ids.TxnId.{TxnId}
@@ -10,10 +10,20 @@ use Rattle.eris_locks.specs.declared.shard_packet.ShardPacket.{ShardPacket}
 use Rattle.eris_locks.specs.LockTable.{run_state}
 use Rattle.eris_locks.specs.ShardRun.{Served, plain_run, plain_values, outcome_in}
 use Rattle.eris_locks.specs.States.{StoreState, phase_of, holds, is_prelim_of, empty}
+use Rattle.eris_locks.specs.TxnIds.{same_id}
 
 abbrev pub StandsIn : Served → List Served → Type 0
 StandsIn served [] = ⊥
 StandsIn served (other ∷ others) = (other ≡ served) ⊎ StandsIn served others
+
+-- the id is among those answered
+abbrev pub is_served : TxnId → List Served → Bool
+is_served id served = list_any (λ other. same_id id other.id) served
+
+-- no id is answered twice
+abbrev pub EachIdOnce : List Served → Type 0
+EachIdOnce [] = ⊤
+EachIdOnce (served ∷ others) = (is_served served.id others ≡ false) × EachIdOnce others
 
 -- the plain run from the beginning, with no value at any key
 abbrev pub plain_answers : List ShardPacket → List Served
