@@ -381,8 +381,11 @@ module _ (E : TxnId → Type 0) (kind : TxnId → Bool) where
           }) in
           record {
             state = r.state;
-            dones = (concluding p Aborted false ph, Each-append EarlyDone (aborted_late p.at p.id s.waiting) (release p.at (end_waiting s p) [] (no_longer_waiting p.id s.waiting)).dones
-                (each_aborted_late EarlyDone p.at p.id s.waiting (each_late p.id p.at s.waiting early)) r.dones);
+            dones = (
+              concluding p Aborted false ph,
+              Each-append EarlyDone (aborted_late p.at p.id s.waiting) (release p.at (end_waiting s p) [] (no_longer_waiting p.id s.waiting)).dones
+                  (each_aborted_late EarlyDone p.at p.id s.waiting (each_late p.id p.at s.waiting early)) r.dones,
+            );
           }
         where
           by_known : (i : TxnId) → ((is_decided (s.recorded i Phase.Prelim) ≡ true) ⊎ (list_any (is_prelim_of i) s.waiting ≡ true))

@@ -18,3 +18,4 @@ mod Ended
 mod Final
 mod Lost
 mod Once
+mod Fits
