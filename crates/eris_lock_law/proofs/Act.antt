@@ -3,7 +3,7 @@ use Rattle.eris_base.specs.declared.ids.Phase.{Phase}
 use Rattle.eris_base.specs.declared.ids.Place.{Place}
 use Rattle.eris_base.specs.declared.ids.TxnId.{TxnId}
 use Rattle.eris_lock_law.proofs.Each.{Each-changed, Each-left, Each-right, Each-weaker}
-use Rattle.eris_lock_law.proofs.Fit.{EntryFit, Fit, Good, Point, SameSet, StandsIn-append_left, distinct_changed, entry, has_id_changed, held_of, helds-append, helds_of, known_here, known_noted, logged_noted, reached, reached_changed, read_answer, ruled_noted, sound_noted, table_changed, table_has, unblocked, waits_of}
+use Rattle.eris_lock_law.proofs.Fit.{EntryFit, Fit, Good, Point, SameSet, StandsIn-append_left, distinct_changed, entry_of, has_id_changed, holder_of, holding_in-append, holding_in, known_here, known_noted, logged_noted, reached, reached_changed, read_answer, ruled_noted, sound_noted, logged_answers_changed, logged_answers_has, unblocked, waiting_in}
 use Rattle.eris_lock_law.proofs.Keys.{after_all_at, modes_conflict, on_key}
 use Rattle.eris_lock_law.proofs.Log.{AllLawful, Complete, Entry, Holds, InOrder, LaterApart, Lawful, OpenApart, Status, Void, Waits, current, current-append, left_in_place, with_status}
 use Rattle.eris_lock_law.proofs.Order.{order_changed, order_later}
@@ -25,71 +25,71 @@ use Rattle.std.proofs.Common.{Bool, List, None, Option, [], ap, false, inl, refl
 use Rattle.std.proofs.lemmas.List.Folds.{list_any-append}
 use Rattle.std.specs.List.{list_any}
 
-pub lawful_of : (kind : TxnId → Bool) (rest : List ShardPacket) (r : TxnId → Phase → Option Answer) (d : TxnId → Option Answer) (es : List Entry) → Each (EntryFit kind rest r d) es → AllLawful es
-lawful_of kind rest r d es h = Each-weaker _ Lawful (λ e f. f.lawful) es h
+pub lawful_of : (kind : TxnId → Bool) (rest : List ShardPacket) (recorded : TxnId → Phase → Option Answer) (decided : TxnId → Option Answer) (entries : List Entry) → Each (EntryFit kind rest recorded decided) entries → AllLawful entries
+lawful_of kind rest recorded decided entries h = Each-weaker _ Lawful (λ e f. f.lawful) entries h
 
 -- an answer more is noted
-pub fit_noted : (kind : TxnId → Bool) (rest : List ShardPacket) (r : TxnId → Phase → Option Answer) (d : TxnId → Option Answer) (id : TxnId) (p : Phase) (a : Answer) (e : Entry)
-    → EntryFit kind rest r d e → EntryFit kind rest (note r id p a) d e
-fit_noted kind rest r d id p a e f = record {
+pub fit_noted : (kind : TxnId → Bool) (rest : List ShardPacket) (recorded : TxnId → Phase → Option Answer) (decided : TxnId → Option Answer) (id : TxnId) (phase : Phase) (answer : Answer) (entry : Entry)
+    → EntryFit kind rest recorded decided entry → EntryFit kind rest (note recorded id phase answer) decided entry
+fit_noted kind rest recorded decided id phase answer entry f = record {
   lawful = f.lawful;
   plain = f.plain;
   kind_is = f.kind_is;
-  known = λ w. known_noted r id p a e.packet.id (phase_of e.packet.body) (f.known w);
+  known = λ w. known_noted recorded id phase answer entry.packet.id (phase_of entry.packet.body) (f.known w);
   undecided = f.undecided;
   fated = f.fated;
   holder = f.holder;
 }
 
-module _ (c : Point) (s : StoreState) (es : List Entry) (at : Place) (asker : ClientId) (id : TxnId) (b : Body) (ws : List Write) (fs : List Entry)
-    (fit : Fit c s (es ++ entry at asker id b ws Waits ∷ fs)) (free : blocked s.holding (waits_of es) (locks_of b) ≡ false) where
+module _ (point : Point) (state : StoreState) (earlier : List Entry) (at : Place) (asker : ClientId) (id : TxnId) (body : Body) (writes : List Write) (following : List Entry)
+    (fit : Fit point state (earlier ++ entry_of at asker id body writes Waits ∷ following)) (free : blocked state.holding (waiting_in earlier) (locks_of body) ≡ false) where
   abbrev it : Entry
-  it = entry at asker id b ws Waits
+  it = entry_of at asker id body writes Waits
 
-  all_lawful : AllLawful (es ++ it ∷ fs)
-  all_lawful = lawful_of c.kind c.rest s.recorded s.decided (es ++ it ∷ fs) fit.each
+  all_lawful : AllLawful (earlier ++ it ∷ following)
+  all_lawful = lawful_of point.kind point.rest state.recorded state.decided (earlier ++ it ∷ following) fit.each
 
-  lawful_before : AllLawful es
-  lawful_before = Each-left Lawful es (it ∷ fs) all_lawful
+  lawful_before : AllLawful earlier
+  lawful_before = Each-left Lawful earlier (it ∷ following) all_lawful
 
-  lawful_after : AllLawful fs
-  lawful_after = (Each-right Lawful es (it ∷ fs) all_lawful).1
+  lawful_after : AllLawful following
+  lawful_after = (Each-right Lawful earlier (it ∷ following) all_lawful).1
 
-  open_apart : OpenApart conflict es (locks_of b)
-  open_apart = unblocked s.holding es (it ∷ fs) (locks_of b) fit.holding free
+  open_apart : OpenApart conflict earlier (locks_of body)
+  open_apart = unblocked state.holding earlier (it ∷ following) (locks_of body) fit.holding free
 
-  later_apart : LaterApart conflict (locks_of b) fs
-  later_apart = order_later conflict es it fs fit.order refl
+  later_apart : LaterApart conflict (locks_of body) following
+  later_apart = order_later conflict earlier it following fit.order refl
 
-  own : EntryFit c.kind c.rest s.recorded s.decided it
-  own = (Each-right (EntryFit c.kind c.rest s.recorded s.decided) es (it ∷ fs) fit.each).0
+  own : EntryFit point.kind point.rest state.recorded state.decided it
+  own = (Each-right (EntryFit point.kind point.rest state.recorded state.decided) earlier (it ∷ following) fit.each).0
 
-  pub act_answer : answer_of b s.values ≡ answer_of b (reached es no_values)
-  act_answer = read_answer es at asker id b ws fs s.values fit.values lawful_before lawful_after open_apart later_apart
+  pub act_answer : answer_of body state.values ≡ answer_of body (reached earlier no_values)
+  act_answer = read_answer earlier at asker id body writes following state.values fit.values lawful_before lawful_after open_apart later_apart
 
-  in_table : StandsIn (record { id = id; answer = answer_of b s.values }) c.all.run
-  in_table = rw (act_answer, fit.linked) (StandsIn-append_left _ _ _ (table_has es it fs no_values))
+  in_table : StandsIn (record { id = id; answer = answer_of body state.values }) point.all.run
+  in_table = rw (act_answer, fit.linked) (StandsIn-append_left _ _ _ (logged_answers_has earlier it following no_values))
 
-  act_values : (status : Status) → ((x : Key) → values_after b s.values x ≡ current x (es ++ with_status status it ∷ fs) None) → InOrder conflict (es ++ with_status status it ∷ fs)
-      → SameSet (holding_after id b s.holding) (helds_of (es ++ with_status status it ∷ fs)) → Good c.all (phase_of b) id (answer_of b s.values)
-      → EntryFit c.kind c.rest (note s.recorded id (phase_of b) (answer_of b s.values)) s.decided (with_status status it)
-      → Fit c (execute s it.packet) (es ++ with_status status it ∷ fs)
+  act_values : (status : Status) → ((key : Key) → values_after body state.values key ≡ current key (earlier ++ with_status status it ∷ following) None) → InOrder conflict (earlier ++ with_status status it ∷ following)
+      → SameSet (holding_after id body state.holding) (holding_in (earlier ++ with_status status it ∷ following)) → Good point.all (phase_of body) id (answer_of body state.values)
+      → EntryFit point.kind point.rest (note state.recorded id (phase_of body) (answer_of body state.values)) state.decided (with_status status it)
+      → Fit point (execute state it.packet) (earlier ++ with_status status it ∷ following)
   act_values status v o h g e = record {
     values = v;
     order = o;
-    each = Each-changed _ es it (with_status status it) fs (Each-weaker _ _ (fit_noted c.kind c.rest s.recorded s.decided id (phase_of b) (answer_of b s.values)) (es ++ it ∷ fs) fit.each) e;
-    distinct = distinct_changed es it fs status fit.distinct;
+    each = Each-changed _ earlier it (with_status status it) following (Each-weaker _ _ (fit_noted point.kind point.rest state.recorded state.decided id (phase_of body) (answer_of body state.values)) (earlier ++ it ∷ following) fit.each) e;
+    distinct = distinct_changed earlier it following status fit.distinct;
     holding = h;
-    sound = sound_noted c.all s.recorded id (phase_of b) (answer_of b s.values) fit.sound g;
-    logged = λ i q k. has_id_changed i es it fs status ∙ logged_noted s.recorded (phase_of b) (answer_of b s.values) es it fs fit.logged i q k;
-    linked = fit.linked ∙ ap (λ t. t ++ plain_run c.reached c.seen c.decided c.rest) (sym (table_changed es it fs status no_values));
-    reaches = reached_changed es it fs status no_values ∙ fit.reaches;
-    seen_is = λ i. fit.seen_is i ∙ sym (has_id_changed i es it fs status);
+    sound = sound_noted point.all state.recorded id (phase_of body) (answer_of body state.values) fit.sound g;
+    logged = λ i q k. has_id_changed i earlier it following status ∙ logged_noted state.recorded (phase_of body) (answer_of body state.values) earlier it following fit.logged i q k;
+    linked = fit.linked ∙ ap (λ t. t ++ plain_run point.reached point.seen point.decided point.rest) (sym (logged_answers_changed earlier it following status no_values));
+    reaches = reached_changed earlier it following status no_values ∙ fit.reaches;
+    seen_is = λ i. fit.seen_is i ∙ sym (has_id_changed i earlier it following status);
     decided_is = fit.decided_is;
     ends = fit.ends;
     told = fit.told;
     untold = fit.untold;
-    ruled = ruled_noted s.recorded s.decided id (phase_of b) (answer_of b s.values) fit.ruled;
+    ruled = ruled_noted state.recorded state.decided id (phase_of body) (answer_of body state.values) fit.ruled;
   }
 
 or_last : (a b h : Bool) → ((a || b) || (h || false)) ≡ (a || (h || b))
@@ -99,8 +99,8 @@ or_last false true false = refl
 or_last false false true = refl
 or_last false false false = refl
 
-pub any_helds : (es : List Entry) (e : Entry) (fs : List Entry) (p : Held → Bool) → list_any p (helds_of (es ++ e ∷ fs)) ≡ (list_any p (helds_of es) || list_any p (helds_of (e ∷ fs)))
-any_helds es e fs p = ap (list_any p) (helds-append es (e ∷ fs)) ∙ list_any-append p (helds_of es) (helds_of (e ∷ fs))
+pub any_holding_in : (earlier : List Entry) (entry : Entry) (following : List Entry) (p : Held → Bool) → list_any p (holding_in (earlier ++ entry ∷ following)) ≡ (list_any p (holding_in earlier) || list_any p (holding_in (entry ∷ following)))
+any_holding_in earlier entry following p = ap (list_any p) (holding_in-append earlier (entry ∷ following)) ∙ list_any-append p (holding_in earlier) (holding_in (entry ∷ following))
 
 -- how an executed one goes on
 abbrev pub acts : Body → Status
@@ -110,64 +110,64 @@ acts (Commit keys writes) = Void
 acts (Abort keys) = Void
 
 abbrev pub acted : Place → ClientId → TxnId → Body → List Write → Entry
-acted at asker id b ws = with_status (acts b) (entry at asker id b ws Waits)
+acted at asker id body writes = with_status (acts body) (entry_of at asker id body writes Waits)
 
 -- ONE THAT ISN'T BLOCKED IS EXECUTED
-pub act : (c : Point) (s : StoreState) (es : List Entry) (at : Place) (asker : ClientId) (id : TxnId) (b : Body) (ws : List Write) (fs : List Entry)
-    → Fit c s (es ++ entry at asker id b ws Waits ∷ fs) → blocked s.holding (waits_of es) (locks_of b) ≡ false
-    → Fit c (execute s (record { at = at; asker = asker; id = id; body = b })) (es ++ acted at asker id b ws ∷ fs)
-    × Good c.all (phase_of b) id (answer_of b s.values)
-act c s es at asker id (Independent ops) ws fs fit free =
-    let it = entry at asker id (Independent ops) ws Waits in
-    let good = in_table c s es at asker id (Independent ops) ws fs fit free in
-    let mine = own c s es at asker id (Independent ops) ws fs fit free in
-    let apart = open_apart c s es at asker id (Independent ops) ws fs fit free in (
-      act_values c s es at asker id (Independent ops) ws fs fit free Complete
-          (λ x. after_all_at ops s.values x
+pub act : (point : Point) (state : StoreState) (earlier : List Entry) (at : Place) (asker : ClientId) (id : TxnId) (body : Body) (own_writes : List Write) (following : List Entry)
+    → Fit point state (earlier ++ entry_of at asker id body own_writes Waits ∷ following) → blocked state.holding (waiting_in earlier) (locks_of body) ≡ false
+    → Fit point (execute state (record { at = at; asker = asker; id = id; body = body })) (earlier ++ acted at asker id body own_writes ∷ following)
+    × Good point.all (phase_of body) id (answer_of body state.values)
+act point state earlier at asker id (Independent ops) own_writes following fit free =
+    let it = entry_of at asker id (Independent ops) own_writes Waits in
+    let good = in_table point state earlier at asker id (Independent ops) own_writes following fit free in
+    let mine = own point state earlier at asker id (Independent ops) own_writes following fit free in
+    let apart = open_apart point state earlier at asker id (Independent ops) own_writes following fit free in (
+      act_values point state earlier at asker id (Independent ops) own_writes following fit free Complete
+          (λ x. after_all_at ops state.values x
           ∙ (ap (on_key ops x) (fit.values x)
-          ∙ sym (left_in_place conflict modes_conflict es it fs x None (lawful_after c s es at asker id (Independent ops) ws fs fit free) (later_apart c s es at asker id (Independent ops) ws fs fit free) mine.lawful refl)))
-          (order_changed conflict es it fs Complete fit.order refl (λ k. apart))
-          (λ p. fit.holding p ∙ (any_helds es it fs p ∙ sym (any_helds es (with_status Complete it) fs p)))
+          ∙ sym (left_in_place conflict modes_conflict earlier it following x None (lawful_after point state earlier at asker id (Independent ops) own_writes following fit free) (later_apart point state earlier at asker id (Independent ops) own_writes following fit free) mine.lawful refl)))
+          (order_changed conflict earlier it following Complete fit.order refl (λ k. apart))
+          (λ p. fit.holding p ∙ (any_holding_in earlier it following p ∙ sym (any_holding_in earlier (with_status Complete it) following p)))
           good
           (record {
             lawful = record { kept = mine.lawful.kept; void = λ v. absurd (cc) };
             plain = refl;
             kind_is = mine.kind_is;
-            known = λ w. known_here s.recorded id Phase.Whole (answer_of (Independent ops) s.values);
+            known = λ w. known_here state.recorded id Phase.Whole (answer_of (Independent ops) state.values);
             undecided = λ o. absurd (cc);
             fated = λ o. absurd (cc);
             holder = λ o. absurd (cc);
           }),
       good,
     )
-act c s es at asker id (Prelim ls) ws fs fit free =
-    let it = entry at asker id (Prelim ls) ws Waits in
-    let good = in_table c s es at asker id (Prelim ls) ws fs fit free in
-    let mine = own c s es at asker id (Prelim ls) ws fs fit free in
-    let apart = open_apart c s es at asker id (Prelim ls) ws fs fit free in (
-      act_values c s es at asker id (Prelim ls) ws fs fit free Holds
-          (λ x. fit.values x ∙ (current-append x es (it ∷ fs) None ∙ sym (current-append x es (with_status Holds it ∷ fs) None)))
-          (order_changed conflict es it fs Holds fit.order refl (λ k. apart))
-          (λ p. list_any-append p s.holding (held_of it ∷ [])
-          ∙ (ap (λ b. b || (p (held_of it) || false)) (fit.holding p ∙ any_helds es it fs p)
-          ∙ or_last (list_any p (helds_of es)) (list_any p (helds_of fs)) (p (held_of it)) ∙ sym (any_helds es (with_status Holds it) fs p)))
+act point state earlier at asker id (Prelim ls) own_writes following fit free =
+    let it = entry_of at asker id (Prelim ls) own_writes Waits in
+    let good = in_table point state earlier at asker id (Prelim ls) own_writes following fit free in
+    let mine = own point state earlier at asker id (Prelim ls) own_writes following fit free in
+    let apart = open_apart point state earlier at asker id (Prelim ls) own_writes following fit free in (
+      act_values point state earlier at asker id (Prelim ls) own_writes following fit free Holds
+          (λ x. fit.values x ∙ (current-append x earlier (it ∷ following) None ∙ sym (current-append x earlier (with_status Holds it ∷ following) None)))
+          (order_changed conflict earlier it following Holds fit.order refl (λ k. apart))
+          (λ p. list_any-append p state.holding (holder_of it ∷ [])
+          ∙ (ap (λ body. body || (p (holder_of it) || false)) (fit.holding p ∙ any_holding_in earlier it following p)
+          ∙ or_last (list_any p (holding_in earlier)) (list_any p (holding_in following)) (p (holder_of it)) ∙ sym (any_holding_in earlier (with_status Holds it) following p)))
           (inl good)
           (record {
             lawful = record { kept = mine.lawful.kept; void = λ v. absurd (cc) };
             plain = refl;
             kind_is = mine.kind_is;
-            known = λ w. known_here s.recorded id Phase.Prelim (answer_of (Prelim ls) s.values);
+            known = λ w. known_here state.recorded id Phase.Prelim (answer_of (Prelim ls) state.values);
             undecided = λ o. mine.undecided refl;
             fated = λ o. mine.fated refl;
             holder = λ o. refl;
           }),
       inl good,
     )
-act c s es at asker id (Commit keys writes) ws fs fit free = absurd (no (own c s es at asker id (Commit keys writes) ws fs fit free).plain)
+act point state earlier at asker id (Commit keys writes) own_writes following fit free = absurd (no (own point state earlier at asker id (Commit keys writes) own_writes following fit free).plain)
   where
     no : true ≡ false → ⊥
     no e = cc
-act c s es at asker id (Abort keys) ws fs fit free = absurd (no (own c s es at asker id (Abort keys) ws fs fit free).plain)
+act point state earlier at asker id (Abort keys) own_writes following fit free = absurd (no (own point state earlier at asker id (Abort keys) own_writes following fit free).plain)
   where
     no : true ≡ false → ⊥
     no e = cc

@@ -4,7 +4,7 @@ use Rattle.eris_lock_law.proofs.Act.{lawful_of}
 use Rattle.eris_lock_law.proofs.Each.{Each-left, Each-with}
 use Rattle.eris_lock_law.proofs.Early.{EarlyDone}
 use Rattle.eris_lock_law.proofs.Ended.{early_answers}
-use Rattle.eris_lock_law.proofs.Fit.{Good, held_of, helds_of, is_holding, is_waiting, reached_at, waits_of}
+use Rattle.eris_lock_law.proofs.Fit.{Good, holder_of, holding_in, is_holding, is_waiting, reached_at, waiting_in}
 use Rattle.eris_lock_law.proofs.Log.{AllLawful, Complete, Entry, Holds, Lawful, Status, Void, Waits, current, effect, final, is_complete, is_void}
 use Rattle.eris_lock_law.proofs.Release.{GoodDone}
 use Rattle.eris_lock_law.proofs.Runs.{law_from, plain}
@@ -27,59 +27,59 @@ use Rattle.std.proofs.lemmas.Bool.{both_ways}
 use Rattle.std.specs.List.{list_any}
 use mathlib.Core.Path.{fun_ext}
 
-pub answers_good : (ps : List ShardPacket) → WellFormed ps → Each (GoodDone (plain ps)) (run_dones empty ps)
-answers_good ps wf = (law_from ps (kind_of ps) (wf_of ps wf)).good
+pub answers_good : (packets : List ShardPacket) → WellFormed packets → Each (GoodDone (plain packets)) (run_dones empty packets)
+answers_good packets wf = (law_from packets (kind_of packets) (wf_of packets wf)).good
 
-done_right : (ps : List ShardPacket) (q : Phase) (id : TxnId) (a : Answer) → Good (plain ps) q id a → (q ≡ Phase.Prelim → a ≡ Aborted → EndedEarly ps id) → IsRight ps q id a
-done_right ps Phase.Whole id a h e = h
-done_right ps Phase.Prelim id a (inl h) e = inl h
-done_right ps Phase.Prelim id a (inr h) e = inr (record { is = h.0; outcome = h.1; ended = e refl h.0 })
-done_right ps Phase.Conclude id a h e = h
+done_right : (packets : List ShardPacket) (phase : Phase) (id : TxnId) (answer : Answer) → Good (plain packets) phase id answer → (phase ≡ Phase.Prelim → answer ≡ Aborted → EndedEarly packets id) → IsRight packets phase id answer
+done_right packets Phase.Whole id answer h e = h
+done_right packets Phase.Prelim id answer (inl h) e = inl h
+done_right packets Phase.Prelim id answer (inr h) e = inr (record { is = h.0; outcome = h.1; ended = e refl h.0 })
+done_right packets Phase.Conclude id answer h e = h
 
 -- EACH ANSWER IS RIGHT
-pub answers_right : (ps : List ShardPacket) → WellFormed ps → Each (IsRightDone ps) (run_dones empty ps)
-answers_right ps wf =
-    Each-with (GoodDone (plain ps)) (EarlyDone (EndedEarly ps) (kind_of ps)) (IsRightDone ps) (λ d h e. done_right ps d.phase d.id d.answer h e) (run_dones empty ps)
-    (answers_good ps wf) (early_answers ps (kind_of ps) (kinds_of ps wf))
+pub answers_right : (packets : List ShardPacket) → WellFormed packets → Each (IsRightDone packets) (run_dones empty packets)
+answers_right packets wf =
+    Each-with (GoodDone (plain packets)) (EarlyDone (EndedEarly packets) (kind_of packets)) (IsRightDone packets) (λ d h e. done_right packets d.phase d.id d.answer h e) (run_dones empty packets)
+    (answers_good packets wf) (early_answers packets (kind_of packets) (kinds_of packets wf))
 
-one_closed : (e : Entry) (s : Status) (x : Key) (v : Option ℕ) (hs : List Held) (ws : List ShardPacket) → Lawful e → e.status ≡ s
-    → list_any (λ h. true) (cond (is_holding s) (held_of e ∷ hs) hs) ≡ false → cond (is_waiting s) (e.packet ∷ ws) ws ≡ []
-    → (cond (is_complete s) (effect e x v) v ≡ effect e x v) × (list_any (λ h. true) hs ≡ false) × (ws ≡ [])
-one_closed e Waits x v hs ws l is h w = absurd (no w)
+one_closed : (entry : Entry) (status : Status) (key : Key) (value : Option ℕ) (holding : List Held) (waiters : List ShardPacket) → Lawful entry → entry.status ≡ status
+    → list_any (λ h. true) (cond (is_holding status) (holder_of entry ∷ holding) holding) ≡ false → cond (is_waiting status) (entry.packet ∷ waiters) waiters ≡ []
+    → (cond (is_complete status) (effect entry key value) value ≡ effect entry key value) × (list_any (λ h. true) holding ≡ false) × (waiters ≡ [])
+one_closed entry Waits key value holding waiters l is h w = absurd (no w)
   where
-    no : e.packet ∷ ws ≡ [] → ⊥
+    no : entry.packet ∷ waiters ≡ [] → ⊥
     no k = cc
-one_closed e Holds x v hs ws l is h w = absurd (both_ways _ h refl)
-one_closed e Complete x v hs ws l is h w = (refl, h, w)
-one_closed e Void x v hs ws l is h w = (sym (l.void (ap is_void is) x v), h, w)
+one_closed entry Holds key value holding waiters l is h w = absurd (both_ways _ h refl)
+one_closed entry Complete key value holding waiters l is h w = (refl, h, w)
+one_closed entry Void key value holding waiters l is h w = (sym (l.void (ap is_void is) key value), h, w)
 
-all_closed : (es : List Entry) (x : Key) (v : Option ℕ) → AllLawful es → list_any (λ h. true) (helds_of es) ≡ false → waits_of es ≡ [] → current x es v ≡ final x es v
-all_closed [] x v l h w = refl
-all_closed (e ∷ es) x v l h w =
-    let r = one_closed e e.status x v (helds_of es) (waits_of es) l.0 refl h w in
-    ap (current x es) r.0 ∙ all_closed es x (effect e x v) l.1 r.1 r.2
+all_closed : (entries : List Entry) (key : Key) (value : Option ℕ) → AllLawful entries → list_any (λ h. true) (holding_in entries) ≡ false → waiting_in entries ≡ [] → current key entries value ≡ final key entries value
+all_closed [] key value l h w = refl
+all_closed (entry ∷ entries) key value l h w =
+    let r = one_closed entry entry.status key value (holding_in entries) (waiting_in entries) l.0 refl h w in
+    ap (current key entries) r.0 ∙ all_closed entries key (effect entry key value) l.1 r.1 r.2
 
-pub values_right : (ps : List ShardPacket) → WellFormed ps → (run_state empty ps).holding ≡ [] → (run_state empty ps).values ≡ plain_end ps
-values_right ps wf h =
-    let n = (law_from ps (kind_of ps) (wf_of ps wf)).next in
+pub values_right : (packets : List ShardPacket) → WellFormed packets → (run_state empty packets).holding ≡ [] → (run_state empty packets).values ≡ plain_end packets
+values_right packets wf h =
+    let n = (law_from packets (kind_of packets) (wf_of packets wf)).next in
     let fit = n.right.fit in
     let log = n.right.log in
-    let s = run_state empty ps in
-    let none : s.waiting ≡ [] = none_waits s (run_stuck ps empty tt) h in
-    let held : list_any (λ k. true) (helds_of log) ≡ false = sym (fit.holding (λ k. true)) ∙ ap (list_any (λ (k : Held). true)) h in
-    fun_ext (λ x. fit.values x ∙ (all_closed log x None (lawful_of (kind_of ps) [] s.recorded s.decided log fit.each) held (sym n.right.waiting ∙ none)
-    ∙ (sym (reached_at log no_values x) ∙ ap (λ (m : Values). m x) (fit.reaches ∙ sym fit.ends))))
+    let s = run_state empty packets in
+    let none : s.waiting ≡ [] = none_waits s (run_stuck packets empty tt) h in
+    let held : list_any (λ k. true) (holding_in log) ≡ false = sym (fit.holding (λ k. true)) ∙ ap (list_any (λ (k : Held). true)) h in
+    fun_ext (λ x. fit.values x ∙ (all_closed log x None (lawful_of (kind_of packets) [] s.recorded s.decided log fit.each) held (sym n.right.waiting ∙ none)
+    ∙ (sym (reached_at log no_values x) ∙ ap (λ (values : Values). values x) (fit.reaches ∙ sym fit.ends))))
 
-pub waiting_none : (ps : List ShardPacket) → (run_state empty ps).holding ≡ [] → (run_state empty ps).waiting ≡ []
-waiting_none ps h = none_waits (run_state empty ps) (run_stuck ps empty tt) h
+pub waiting_none : (packets : List ShardPacket) → (run_state empty packets).holding ≡ [] → (run_state empty packets).waiting ≡ []
+waiting_none packets h = none_waits (run_state empty packets) (run_stuck packets empty tt) h
 
 -- what a store answered on a beginning of the list is right by the whole list
-pub dones_of_prefix : (ps qs : List ShardPacket) (s : StoreState) → run_dones s (ps ++ qs) ≡ run_dones s ps ++ run_dones (run_state s ps) qs
-dones_of_prefix [] qs s = refl
-dones_of_prefix (p ∷ ps) qs s = ap (λ t. (step s p).dones ++ t) (dones_of_prefix ps qs (step s p).state) ∙ sym (append_assoc (step s p).dones (run_dones (step s p).state ps) (run_dones (run_state s (p ∷ ps)) qs))
+pub dones_of_prefix : (packets rest : List ShardPacket) (state : StoreState) → run_dones state (packets ++ rest) ≡ run_dones state packets ++ run_dones (run_state state packets) rest
+dones_of_prefix [] rest state = refl
+dones_of_prefix (packet ∷ packets) rest state = ap (λ t. (step state packet).dones ++ t) (dones_of_prefix packets rest (step state packet).state) ∙ sym (append_assoc (step state packet).dones (run_dones (step state packet).state packets) (run_dones (run_state state (packet ∷ packets)) rest))
 
 -- AND SO IS WHAT A STORE ANSWERED that ran only a beginning of the list
-pub beginning_right : (ps qs : List ShardPacket) → WellFormed (ps ++ qs) → Each (IsRightDone (ps ++ qs)) (run_dones empty ps)
-beginning_right ps qs wf =
-    Each-left (IsRightDone (ps ++ qs)) (run_dones empty ps) (run_dones (run_state empty ps) qs)
-    (subst (λ (ds : List Done). Each (IsRightDone (ps ++ qs)) ds) (dones_of_prefix ps qs empty) (answers_right (ps ++ qs) wf))
+pub beginning_right : (packets rest : List ShardPacket) → WellFormed (packets ++ rest) → Each (IsRightDone (packets ++ rest)) (run_dones empty packets)
+beginning_right packets rest wf =
+    Each-left (IsRightDone (packets ++ rest)) (run_dones empty packets) (run_dones (run_state empty packets) rest)
+    (subst (λ (dones : List Done). Each (IsRightDone (packets ++ rest)) dones) (dones_of_prefix packets rest empty) (answers_right (packets ++ rest) wf))

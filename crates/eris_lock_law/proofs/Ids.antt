@@ -1,5 +1,5 @@
 -- What the test of two ids says.
-use Rattle.std.proofs.Common.{◌≡◌, true, false, refl, ap, sym, ◌∙◌, subst, ◌⊎◌, inl, inr}
+use Rattle.std.proofs.Common.{◌≡◌, true, false, refl, ap, sym, ◌∙◌, ◌⊎◌, inl, inr}
 use Rattle.std.proofs.lemmas.Bool.{and_parts, and_from, eq-eqb, eqb-true, cases_Bool, both_ways}
 use Rattle.eris_base.specs.declared.ids.TxnId.{TxnId}
 use Rattle.eris_locks.specs.TxnIds.{same_id}

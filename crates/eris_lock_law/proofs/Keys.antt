@@ -15,47 +15,47 @@ use Rattle.std.specs.List.{list_any}
 
 -- operations and writes at one key
 abbrev pub on_key : List Op → Key → Option ℕ → Option ℕ
-on_key [] x v = v
-on_key (op ∷ ops) x v = on_key ops x (cond (same_key (key_of op) x) (left_by op v) v)
+on_key [] key value = value
+on_key (op ∷ ops) key value = on_key ops key (cond (same_key (key_of op) key) (left_by op value) value)
 
 abbrev pub put_on : List Write → Key → Option ℕ → Option ℕ
-put_on [] x v = v
-put_on (w ∷ ws) x v = put_on ws x (cond (same_key w.key x) (Some w.value) v)
+put_on [] key value = value
+put_on (write ∷ writes) key value = put_on writes key (cond (same_key write.key key) (Some write.value) value)
 
 -- an operation at one key
-after_at : (op : Op) (m : Values) (x : Key) → ((same_key (key_of op) x ≡ true) ⊎ (same_key (key_of op) x ≡ false)) → after op m x ≡ cond (same_key (key_of op) x) (left_by op (m x)) (m x)
-after_at op m x (inl t) = ap (λ k. cond (same_key (key_of op) x) (left_by op (m k)) (m x)) (same_key-true (key_of op) x t)
-after_at op m x (inr t) = cond-false _ _ _ t ∙ sym (cond-false _ _ _ t)
+after_at : (op : Op) (values : Values) (key : Key) → ((same_key (key_of op) key ≡ true) ⊎ (same_key (key_of op) key ≡ false)) → after op values key ≡ cond (same_key (key_of op) key) (left_by op (values key)) (values key)
+after_at op values key (inl t) = ap (λ k. cond (same_key (key_of op) key) (left_by op (values k)) (values key)) (same_key-true (key_of op) key t)
+after_at op values key (inr t) = cond-false _ _ _ t ∙ sym (cond-false _ _ _ t)
 
-pub after_all_at : (ops : List Op) (m : Values) (x : Key) → after_all ops m x ≡ on_key ops x (m x)
-after_all_at [] m x = refl
-after_all_at (op ∷ ops) m x = after_all_at ops (after op m) x ∙ ap (on_key ops x) (after_at op m x (cases_Bool (same_key (key_of op) x)))
+pub after_all_at : (ops : List Op) (values : Values) (key : Key) → after_all ops values key ≡ on_key ops key (values key)
+after_all_at [] values key = refl
+after_all_at (op ∷ ops) values key = after_all_at ops (after op values) key ∙ ap (on_key ops key) (after_at op values key (cases_Bool (same_key (key_of op) key)))
 
-pub written_at : (ws : List Write) (m : Values) (x : Key) → written ws m x ≡ put_on ws x (m x)
-written_at [] m x = refl
-written_at (w ∷ ws) m x = written_at ws (λ y. cond (same_key w.key y) (Some w.value) (m y)) x
+pub written_at : (writes : List Write) (values : Values) (key : Key) → written writes values key ≡ put_on writes key (values key)
+written_at [] values key = refl
+written_at (write ∷ writes) values key = written_at writes (λ y. cond (same_key write.key y) (Some write.value) (values y)) key
 
-one_kept : (op : Op) (b : Bool) (v : Option ℕ) → (b && is_exclusive (mode_of op)) ≡ false → cond b (left_by op v) v ≡ v
-one_kept op false v h = refl
-one_kept (Get k) true v h = refl
-one_kept (Put k n) true v h = cc
-one_kept (Del k) true v h = cc
-one_kept (Add k n) true v h = cc
-one_kept (Cas k e n) true v h = cc
+one_kept : (op : Op) (b : Bool) (value : Option ℕ) → (b && is_exclusive (mode_of op)) ≡ false → cond b (left_by op value) value ≡ value
+one_kept op false value h = refl
+one_kept (Get k) true value h = refl
+one_kept (Put k n) true value h = cc
+one_kept (Del k) true value h = cc
+one_kept (Add k n) true value h = cc
+one_kept (Cas k e n) true value h = cc
 
 -- a key that the operations only read
-pub on_key_kept : (ops : List Op) (x : Key) (v : Option ℕ) → alters x (map lock_of ops) ≡ false → on_key ops x v ≡ v
-on_key_kept [] x v h = refl
-on_key_kept (op ∷ ops) x v h =
+pub on_key_kept : (ops : List Op) (key : Key) (value : Option ℕ) → alters key (map lock_of ops) ≡ false → on_key ops key value ≡ value
+on_key_kept [] key value h = refl
+on_key_kept (op ∷ ops) key value h =
     let parts = or_parts _ _ h in
-    ap (on_key ops x) (one_kept op (same_key (key_of op) x) v parts.0) ∙ on_key_kept ops x v parts.1
+    ap (on_key ops key) (one_kept op (same_key (key_of op) key) value parts.0) ∙ on_key_kept ops key value parts.1
 
 -- the answers go by the keys that are touched
-pub answers_agree : (ops : List Op) (m n : Values) → ((x : Key) → touches x (map lock_of ops) ≡ true → m x ≡ n x) → answers ops m ≡ answers ops n
-answers_agree [] m n h = refl
-answers_agree (op ∷ ops) m n h =
+pub answers_agree : (ops : List Op) (values others : Values) → ((key : Key) → touches key (map lock_of ops) ≡ true → values key ≡ others key) → answers ops values ≡ answers ops others
+answers_agree [] values others h = refl
+answers_agree (op ∷ ops) values others h =
     let head = ap (answered op) (h (key_of op) (or_left _ _ (same_key-refl (key_of op)))) in
-    let tail = answers_agree ops (after op m) (after op n) (λ x t. ap (λ v. cond (same_key (key_of op) x) (left_by op v) (m x)) (h (key_of op) (or_left _ _ (same_key-refl (key_of op)))) ∙ ap (λ v. cond (same_key (key_of op) x) (left_by op (n (key_of op))) v) (h x (or_right _ _ t))) in
+    let tail = answers_agree ops (after op values) (after op others) (λ key t. ap (λ v. cond (same_key (key_of op) key) (left_by op v) (values key)) (h (key_of op) (or_left _ _ (same_key-refl (key_of op)))) ∙ ap (λ v. cond (same_key (key_of op) key) (left_by op (others (key_of op))) v) (h key (or_right _ _ t))) in
     cc
 
 and_or_right : (k a b : Bool) → (k && (a || b)) ≡ false → (k && b) ≡ false
@@ -63,12 +63,12 @@ and_or_right true true b h = cc
 and_or_right true false b h = h
 and_or_right false a b h = refl
 
-clash_free : (l : Lock) (ys : List Lock) (x : Key) → list_any (clash l) ys ≡ false → same_key l.key x ≡ true → alters x ys ≡ false
-clash_free l [] x h e = refl
-clash_free l (y ∷ ys) x h e =
+clash_free : (lock : Lock) (others : List Lock) (key : Key) → list_any (clash lock) others ≡ false → same_key lock.key key ≡ true → alters key others ≡ false
+clash_free lock [] key h e = refl
+clash_free lock (other_lock ∷ others) key h e =
     or_from _ _
-    (ap (λ t. t && is_exclusive y.mode) (ap (same_key y.key) (sym (same_key-true l.key x e)) ∙ same_key-symm y.key l.key) ∙ and_or_right (same_key l.key y.key) (is_exclusive l.mode) (is_exclusive y.mode) (or_parts (clash l y) (list_any (clash l) ys) h).0)
-    (clash_free l ys x (or_parts (clash l y) (list_any (clash l) ys) h).1 e)
+    (ap (λ t. t && is_exclusive other_lock.mode) (ap (same_key other_lock.key) (sym (same_key-true lock.key key e)) ∙ same_key-symm other_lock.key lock.key) ∙ and_or_right (same_key lock.key other_lock.key) (is_exclusive lock.mode) (is_exclusive other_lock.mode) (or_parts (clash lock other_lock) (list_any (clash lock) others) h).0)
+    (clash_free lock others key (or_parts (clash lock other_lock) (list_any (clash lock) others) h).1 e)
 
 or_turned : (a b : Bool) → (a || b) ≡ (b || a)
 or_turned true true = refl
@@ -82,66 +82,66 @@ or_swapped false true true d = refl
 or_swapped false true false d = refl
 or_swapped false false c d = refl
 
-apart_first : (xs ys : List Lock) (x : Key) → conflict xs ys ≡ false → touches x xs ≡ true → alters x ys ≡ false
+apart_first : (some others : List Lock) (key : Key) → conflict some others ≡ false → touches key some ≡ true → alters key others ≡ false
 unfolding conflict
-apart_first [] ys x h t = cc
-apart_first (l ∷ xs) ys x h t = split (or_cases (same_key l.key x) (touches x xs) t) (apart_first xs ys x (or_parts (list_any (clash l) ys) (conflict xs ys) h).1)
+apart_first [] others key h t = cc
+apart_first (lock ∷ some) others key h t = split (or_cases (same_key lock.key key) (touches key some) t) (apart_first some others key (or_parts (list_any (clash lock) others) (conflict some others) h).1)
   where
-    split : ((same_key l.key x ≡ true) ⊎ (touches x xs ≡ true)) → (touches x xs ≡ true → alters x ys ≡ false) → alters x ys ≡ false
-    split (inl e) ih = clash_free l ys x (or_parts (list_any (clash l) ys) (conflict xs ys) h).0 e
+    split : ((same_key lock.key key ≡ true) ⊎ (touches key some ≡ true)) → (touches key some ≡ true → alters key others ≡ false) → alters key others ≡ false
+    split (inl e) ih = clash_free lock others key (or_parts (list_any (clash lock) others) (conflict some others) h).0 e
     split (inr k) ih = ih k
 
 clash_turned : (a b : Lock) → clash a b ≡ clash b a
 clash_turned a b = ap (λ t. t && (is_exclusive a.mode || is_exclusive b.mode)) (same_key-symm a.key b.key) ∙ ap (λ t. same_key b.key a.key && t) (or_turned (is_exclusive a.mode) (is_exclusive b.mode))
 
-clashes_turned : (l : Lock) (ys : List Lock) → list_any (clash l) ys ≡ list_any (λ y. clash y l) ys
-clashes_turned l [] = refl
-clashes_turned l (y ∷ ys) = ap (λ t. t || list_any (clash l) ys) (clash_turned l y) ∙ ap (λ t. clash y l || t) (clashes_turned l ys)
+clashes_turned : (lock : Lock) (others : List Lock) → list_any (clash lock) others ≡ list_any (λ other_lock. clash other_lock lock) others
+clashes_turned lock [] = refl
+clashes_turned lock (other_lock ∷ others) = ap (λ t. t || list_any (clash lock) others) (clash_turned lock other_lock) ∙ ap (λ t. clash other_lock lock || t) (clashes_turned lock others)
 
-conflict_none : (ys : List Lock) → conflict ys [] ≡ false
+conflict_none : (others : List Lock) → conflict others [] ≡ false
 unfolding conflict
 conflict_none [] = refl
-conflict_none (y ∷ ys) = conflict_none ys
+conflict_none (other_lock ∷ others) = conflict_none others
 
-conflict_more : (ys : List Lock) (l : Lock) (xs : List Lock) → conflict ys (l ∷ xs) ≡ (list_any (λ y. clash y l) ys || conflict ys xs)
+conflict_more : (others : List Lock) (lock : Lock) (some : List Lock) → conflict others (lock ∷ some) ≡ (list_any (λ other_lock. clash other_lock lock) others || conflict others some)
 unfolding conflict
-conflict_more [] l xs = refl
-conflict_more (y ∷ ys) l xs =
-    ap (λ t. (clash y l || list_any (clash y) xs) || t) (conflict_more ys l xs)
-    ∙ or_swapped (clash y l) (list_any (clash y) xs) (list_any (λ z. clash z l) ys) (conflict ys xs)
+conflict_more [] lock some = refl
+conflict_more (other_lock ∷ others) lock some =
+    ap (λ t. (clash other_lock lock || list_any (clash other_lock) some) || t) (conflict_more others lock some)
+    ∙ or_swapped (clash other_lock lock) (list_any (clash other_lock) some) (list_any (λ z. clash z lock) others) (conflict others some)
 
-conflict_turned : (xs ys : List Lock) → conflict xs ys ≡ conflict ys xs
+conflict_turned : (some others : List Lock) → conflict some others ≡ conflict others some
 unfolding conflict
-conflict_turned [] ys = sym (conflict_none ys)
-conflict_turned (l ∷ xs) ys =
-    ap (λ t. t || conflict xs ys) (clashes_turned l ys)
-    ∙ ap (λ t. list_any (λ y. clash y l) ys || t) (conflict_turned xs ys)
-    ∙ sym (conflict_more ys l xs)
+conflict_turned [] others = sym (conflict_none others)
+conflict_turned (lock ∷ some) others =
+    ap (λ t. t || conflict some others) (clashes_turned lock others)
+    ∙ ap (λ t. list_any (λ y. clash y lock) others || t) (conflict_turned some others)
+    ∙ sym (conflict_more others lock some)
 
 -- LOCK MODES ARE A CONFLICT as the law asks for one
 pub modes_conflict : IsConflict conflict
 modes_conflict = record { symmetric = conflict_turned; reads_only = apart_first }
 
-pub touches_from_alters : (ls : List Lock) (x : Key) → alters x ls ≡ true → touches x ls ≡ true
-touches_from_alters [] x h = h
-touches_from_alters (l ∷ ls) x h = split (or_cases (same_key l.key x && is_exclusive l.mode) (alters x ls) h) (touches_from_alters ls x)
+pub touches_from_alters : (locks : List Lock) (key : Key) → alters key locks ≡ true → touches key locks ≡ true
+touches_from_alters [] key h = h
+touches_from_alters (lock ∷ locks) key h = split (or_cases (same_key lock.key key && is_exclusive lock.mode) (alters key locks) h) (touches_from_alters locks key)
   where
-    split : (((same_key l.key x && is_exclusive l.mode) ≡ true) ⊎ (alters x ls ≡ true)) → (alters x ls ≡ true → touches x ls ≡ true) → touches x (l ∷ ls) ≡ true
-    split (inl e) ih = or_left (same_key l.key x) (touches x ls) (and_parts (same_key l.key x) (is_exclusive l.mode) e).0
-    split (inr k) ih = or_right (same_key l.key x) (touches x ls) (ih k)
+    split : (((same_key lock.key key && is_exclusive lock.mode) ≡ true) ⊎ (alters key locks ≡ true)) → (alters key locks ≡ true → touches key locks ≡ true) → touches key (lock ∷ locks) ≡ true
+    split (inl e) ih = or_left (same_key lock.key key) (touches key locks) (and_parts (same_key lock.key key) (is_exclusive lock.mode) e).0
+    split (inr k) ih = or_right (same_key lock.key key) (touches key locks) (ih k)
 
 -- the values of a list of locks go by the keys that are touched
-pub reads_agree : (ls : List Lock) (m n : Values) → ((x : Key) → touches x ls ≡ true → m x ≡ n x) → map (λ l. m l.key) ls ≡ map (λ l. n l.key) ls
-reads_agree [] m n h = refl
-reads_agree (l ∷ ls) m n h =
-    let head = h l.key (or_left _ _ (same_key-refl l.key)) in
-    let tail = reads_agree ls m n (λ x t. h x (or_right _ _ t)) in
+pub reads_agree : (locks : List Lock) (values others : Values) → ((key : Key) → touches key locks ≡ true → values key ≡ others key) → map (λ lock. values lock.key) locks ≡ map (λ lock. others lock.key) locks
+reads_agree [] values others h = refl
+reads_agree (lock ∷ locks) values others h =
+    let head = h lock.key (or_left _ _ (same_key-refl lock.key)) in
+    let tail = reads_agree locks values others (λ key t. h key (or_right _ _ t)) in
     cc
 
-pub put_on_kept : (ws : List Write) (ls : List Lock) (x : Key) (v : Option ℕ) → Each (λ write. alters write.key ls ≡ true) ws → alters x ls ≡ false → put_on ws x v ≡ v
-put_on_kept [] ls x v h a = refl
-put_on_kept (w ∷ ws) ls x v h a = ap (put_on ws x) (cond-false (same_key w.key x) (Some w.value) v (apart (cases_Bool (same_key w.key x)))) ∙ put_on_kept ws ls x v h.1 a
+pub put_on_kept : (writes : List Write) (locks : List Lock) (key : Key) (value : Option ℕ) → Each (λ write. alters write.key locks ≡ true) writes → alters key locks ≡ false → put_on writes key value ≡ value
+put_on_kept [] locks key value h a = refl
+put_on_kept (w ∷ writes) locks key value h a = ap (put_on writes key) (cond-false (same_key w.key key) (Some w.value) value (apart (cases_Bool (same_key w.key key)))) ∙ put_on_kept writes locks key value h.1 a
   where
-    apart : ((same_key w.key x ≡ true) ⊎ (same_key w.key x ≡ false)) → same_key w.key x ≡ false
-    apart (inl e) = absurd (both_ways _ a (ap (λ k. alters k ls) (sym (same_key-true w.key x e)) ∙ h.0))
+    apart : ((same_key w.key key ≡ true) ⊎ (same_key w.key key ≡ false)) → same_key w.key key ≡ false
+    apart (inl e) = absurd (both_ways _ a (ap (λ k. alters k locks) (sym (same_key-true w.key key e)) ∙ h.0))
     apart (inr e) = e

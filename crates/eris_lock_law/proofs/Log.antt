@@ -49,128 +49,128 @@ is_void Holds = false
 is_void Complete = false
 is_void Void = true
 
-abbrev pub locks : Entry → List Lock
-locks e = locks_of e.packet.body
+abbrev pub locks_in : Entry → List Lock
+locks_in entry = locks_of entry.packet.body
 
 -- what a transaction leaves at one key
 abbrev pub left_at : Body → List Write → Key → Option ℕ → Option ℕ
-left_at (Independent ops) ws x v = on_key ops x v
-left_at (Prelim ls) ws x v = put_on ws x v
-left_at (Commit keys writes) ws x v = v
-left_at (Abort keys) ws x v = v
+left_at (Independent ops) own_writes key value = on_key ops key value
+left_at (Prelim ls) own_writes key value = put_on own_writes key value
+left_at (Commit keys writes) own_writes key value = value
+left_at (Abort keys) own_writes key value = value
 
-pub left_after_at : (b : Body) (ws : List Write) (m : Values) (x : Key) → left_after b ws m x ≡ left_at b ws x (m x)
-left_after_at (Independent ops) ws m x = after_all_at ops m x
-left_after_at (Prelim ls) ws m x = written_at ws m x
-left_after_at (Commit keys writes) ws m x = refl
-left_after_at (Abort keys) ws m x = refl
+pub left_after_at : (body : Body) (own_writes : List Write) (values : Values) (key : Key) → left_after body own_writes values key ≡ left_at body own_writes key (values key)
+left_after_at (Independent ops) own_writes values key = after_all_at ops values key
+left_after_at (Prelim ls) own_writes values key = written_at own_writes values key
+left_after_at (Commit keys writes) own_writes values key = refl
+left_after_at (Abort keys) own_writes values key = refl
 
 abbrev pub effect : Entry → Key → Option ℕ → Option ℕ
-effect e x v = left_at e.packet.body e.writes x v
+effect entry key value = left_at entry.packet.body entry.writes key value
 
 -- the complete transactions' effects on a key, and those of all
 abbrev pub current : Key → List Entry → Option ℕ → Option ℕ
-current x [] v = v
-current x (e ∷ es) v = current x es (cond (is_complete e.status) (effect e x v) v)
+current key [] value = value
+current key (entry ∷ entries) value = current key entries (cond (is_complete entry.status) (effect entry key value) value)
 
 abbrev pub final : Key → List Entry → Option ℕ → Option ℕ
-final x [] v = v
-final x (e ∷ es) v = final x es (effect e x v)
+final key [] value = value
+final key (entry ∷ entries) value = final key entries (effect entry key value)
 
 -- an effect is on keys that are locked Exclusive, and there is none after an abort
-pub record Lawful (e : Entry) : Type 0 where
-  pub kept : (x : Key) (v : Option ℕ) → alters x (locks e) ≡ false → effect e x v ≡ v
-  pub void : is_void e.status ≡ true → (x : Key) (v : Option ℕ) → effect e x v ≡ v
+pub record Lawful (entry : Entry) : Type 0 where
+  pub kept : (key : Key) (value : Option ℕ) → alters key (locks_in entry) ≡ false → effect entry key value ≡ value
+  pub void : is_void entry.status ≡ true → (key : Key) (value : Option ℕ) → effect entry key value ≡ value
 
 abbrev pub AllLawful : List Entry → Type 0
-AllLawful es = Each Lawful es
+AllLawful entries = Each Lawful entries
 
 module _ (conflicts : List Lock → List Lock → Bool) where
   -- none of the later ones that acted conflicts with these locks
   abbrev pub LaterApart : List Lock → List Entry → Type 0
-  LaterApart ls es = Each (λ e. has_acted e.status ≡ true → conflicts ls (locks e) ≡ false) es
+  LaterApart locks entries = Each (λ e. has_acted e.status ≡ true → conflicts locks (locks_in e) ≡ false) entries
 
   -- none of the open ones conflicts with these locks
   abbrev pub OpenApart : List Entry → List Lock → Type 0
-  OpenApart es ls = Each (λ e. is_open e.status ≡ true → conflicts (locks e) ls ≡ false) es
+  OpenApart entries locks = Each (λ e. is_open e.status ≡ true → conflicts (locks_in e) locks ≡ false) entries
 
   -- where one is open, the later ones that acted don't conflicts with it
   abbrev pub InOrder : List Entry → Type 0
   InOrder [] = Unit {0}
-  InOrder (e ∷ es) = (is_open e.status ≡ true → LaterApart (locks e) es) × InOrder es
+  InOrder (entry ∷ entries) = (is_open entry.status ≡ true → LaterApart (locks_in entry) entries) × InOrder entries
 
 abbrev pub with_status : Status → Entry → Entry
-with_status s e = record e { status = s }
+with_status status entry = record entry { status = status }
 
-complete_acted : (s : Status) → is_complete s ≡ true → has_acted s ≡ true
+complete_acted : (status : Status) → is_complete status ≡ true → has_acted status ≡ true
 complete_acted Waits h = cc
 complete_acted Holds h = cc
 complete_acted Complete h = refl
 complete_acted Void h = cc
 
-one_before : (e : Entry) (x : Key) (v : Option ℕ) (s : Status) → e.status ≡ s → Lawful e → (is_open s ≡ true → alters x (locks e) ≡ false) → cond (is_complete s) (effect e x v) v ≡ effect e x v
-one_before e x v Waits is w a = sym (w.kept x v (a refl))
-one_before e x v Holds is w a = sym (w.kept x v (a refl))
-one_before e x v Complete is w a = refl
-one_before e x v Void is w a = sym (w.void (ap is_void is) x v)
+one_before : (entry : Entry) (key : Key) (value : Option ℕ) (status : Status) → entry.status ≡ status → Lawful entry → (is_open status ≡ true → alters key (locks_in entry) ≡ false) → cond (is_complete status) (effect entry key value) value ≡ effect entry key value
+one_before entry key value Waits is w a = sym (w.kept key value (a refl))
+one_before entry key value Holds is w a = sym (w.kept key value (a refl))
+one_before entry key value Complete is w a = refl
+one_before entry key value Void is w a = sym (w.void (ap is_void is) key value)
 
-pub current-append : (x : Key) (es fs : List Entry) (v : Option ℕ) → current x (es ++ fs) v ≡ current x fs (current x es v)
-current-append x [] fs v = refl
-current-append x (e ∷ es) fs v = current-append x es fs (cond (is_complete e.status) (effect e x v) v)
+pub current-append : (key : Key) (earlier following : List Entry) (value : Option ℕ) → current key (earlier ++ following) value ≡ current key following (current key earlier value)
+current-append key [] following value = refl
+current-append key (entry ∷ earlier) following value = current-append key earlier following (cond (is_complete entry.status) (effect entry key value) value)
 
-pub final-append : (x : Key) (es fs : List Entry) (v : Option ℕ) → final x (es ++ fs) v ≡ final x fs (final x es v)
-final-append x [] fs v = refl
-final-append x (e ∷ es) fs v = final-append x es fs (effect e x v)
+pub final-append : (key : Key) (earlier following : List Entry) (value : Option ℕ) → final key (earlier ++ following) value ≡ final key following (final key earlier value)
+final-append key [] following value = refl
+final-append key (entry ∷ earlier) following value = final-append key earlier following (effect entry key value)
 
 -- FOR ANY CONFLICT that is symmetric and without which two share only keys that both only read
 module _ (conflicts : List Lock → List Lock → Bool) (lawful : IsConflict conflicts) where
   -- at a key that the locks touch, later complete ones do nothing
-  pub current_later : (ls : List Lock) (es : List Entry) (x : Key) (v : Option ℕ) → AllLawful es → LaterApart conflicts ls es → touches x ls ≡ true → current x es v ≡ v
-  current_later ls [] x v w a t = refl
-  current_later ls (e ∷ es) x v w a t = ap (current x es) (here (cases_Bool (is_complete e.status))) ∙ current_later ls es x v w.1 a.1 t
+  pub current_later : (locks : List Lock) (entries : List Entry) (key : Key) (value : Option ℕ) → AllLawful entries → LaterApart conflicts locks entries → touches key locks ≡ true → current key entries value ≡ value
+  current_later locks [] key value w a t = refl
+  current_later locks (entry ∷ entries) key value w a t = ap (current key entries) (here (cases_Bool (is_complete entry.status))) ∙ current_later locks entries key value w.1 a.1 t
     where
-      here : ((is_complete e.status ≡ true) ⊎ (is_complete e.status ≡ false)) → cond (is_complete e.status) (effect e x v) v ≡ v
-      here (inl c) = cond-true _ _ _ c ∙ w.0.kept x v (lawful.reads_only ls (locks e) x (a.0 (complete_acted e.status c)) t)
+      here : ((is_complete entry.status ≡ true) ⊎ (is_complete entry.status ≡ false)) → cond (is_complete entry.status) (effect entry key value) value ≡ value
+      here (inl c) = cond-true _ _ _ c ∙ w.0.kept key value (lawful.reads_only locks (locks_in entry) key (a.0 (complete_acted entry.status c)) t)
       here (inr c) = cond-false _ _ _ c
 
   -- at a key that the locks touch, the complete ones before are as good as all
-  pub current_before : (es : List Entry) (ls : List Lock) (x : Key) (v : Option ℕ) → AllLawful es → OpenApart conflicts es ls → touches x ls ≡ true → current x es v ≡ final x es v
-  current_before [] ls x v w a t = refl
-  current_before (e ∷ es) ls x v w a t =
-      ap (current x es) (one_before e x v e.status refl w.0 (λ o. lawful.reads_only ls (locks e) x (lawful.symmetric ls (locks e) ∙ a.0 o) t)) ∙ current_before es ls x (effect e x v) w.1 a.1 t
+  pub current_before : (entries : List Entry) (locks : List Lock) (key : Key) (value : Option ℕ) → AllLawful entries → OpenApart conflicts entries locks → touches key locks ≡ true → current key entries value ≡ final key entries value
+  current_before [] locks key value w a t = refl
+  current_before (entry ∷ entries) locks key value w a t =
+      ap (current key entries) (one_before entry key value entry.status refl w.0 (λ o. lawful.reads_only locks (locks_in entry) key (lawful.symmetric locks (locks_in entry) ∙ a.0 o) t)) ∙ current_before entries locks key (effect entry key value) w.1 a.1 t
 
   -- WHAT AN UNBLOCKED TRANSACTION READS is what the plain run has at its point
-  pub read_at_point : (es : List Entry) (e : Entry) (fs : List Entry) (x : Key) (v : Option ℕ)
-      → AllLawful es → AllLawful fs → OpenApart conflicts es (locks e) → LaterApart conflicts (locks e) fs → is_complete e.status ≡ false → touches x (locks e) ≡ true
-      → current x (es ++ e ∷ fs) v ≡ final x es v
-  read_at_point es e fs x v we wf o l c t =
-      current-append x es (e ∷ fs) v
-      ∙ (ap (current x fs) (cond-false _ _ _ c)
-      ∙ (current_later (locks e) fs x (current x es v) wf l t
-      ∙ current_before es (locks e) x v we o t))
+  pub read_at_point : (earlier : List Entry) (entry : Entry) (following : List Entry) (key : Key) (value : Option ℕ)
+      → AllLawful earlier → AllLawful following → OpenApart conflicts earlier (locks_in entry) → LaterApart conflicts (locks_in entry) following → is_complete entry.status ≡ false → touches key (locks_in entry) ≡ true
+      → current key (earlier ++ entry ∷ following) value ≡ final key earlier value
+  read_at_point earlier entry following key value we wf o l c t =
+      current-append key earlier (entry ∷ following) value
+      ∙ (ap (current key following) (cond-false _ _ _ c)
+      ∙ (current_later (locks_in entry) following key (current key earlier value) wf l t
+      ∙ current_before earlier (locks_in entry) key value we o t))
 
   -- WHAT IT LEAVES takes its place among the complete ones
-  pub left_in_place : (es : List Entry) (e : Entry) (fs : List Entry) (x : Key) (v : Option ℕ)
-      → AllLawful fs → LaterApart conflicts (locks e) fs → Lawful e → is_complete e.status ≡ false
-      → current x (es ++ with_status Complete e ∷ fs) v ≡ effect e x (current x (es ++ e ∷ fs) v)
-  left_in_place es e fs x v wf l we c = by_cases (cases_Bool (alters x (locks e)))
+  pub left_in_place : (earlier : List Entry) (entry : Entry) (following : List Entry) (key : Key) (value : Option ℕ)
+      → AllLawful following → LaterApart conflicts (locks_in entry) following → Lawful entry → is_complete entry.status ≡ false
+      → current key (earlier ++ with_status Complete entry ∷ following) value ≡ effect entry key (current key (earlier ++ entry ∷ following) value)
+  left_in_place earlier entry following key value wf l we c = by_cases (cases_Bool (alters key (locks_in entry)))
     where
       before : Option ℕ
-      before = current x es v
+      before = current key earlier value
 
-      left : current x (es ++ with_status Complete e ∷ fs) v ≡ current x fs (effect e x before)
-      left = current-append x es (with_status Complete e ∷ fs) v
+      left : current key (earlier ++ with_status Complete entry ∷ following) value ≡ current key following (effect entry key before)
+      left = current-append key earlier (with_status Complete entry ∷ following) value
 
-      right : current x (es ++ e ∷ fs) v ≡ current x fs before
-      right = current-append x es (e ∷ fs) v ∙ ap (current x fs) (cond-false _ _ _ c)
+      right : current key (earlier ++ entry ∷ following) value ≡ current key following before
+      right = current-append key earlier (entry ∷ following) value ∙ ap (current key following) (cond-false _ _ _ c)
 
-      by_cases : ((alters x (locks e) ≡ true) ⊎ (alters x (locks e) ≡ false)) → current x (es ++ with_status Complete e ∷ fs) v ≡ effect e x (current x (es ++ e ∷ fs) v)
+      by_cases : ((alters key (locks_in entry) ≡ true) ⊎ (alters key (locks_in entry) ≡ false)) → current key (earlier ++ with_status Complete entry ∷ following) value ≡ effect entry key (current key (earlier ++ entry ∷ following) value)
       by_cases (inl a) =
-          let t = touches_from_alters (locks e) x a in
-          let one = current_later (locks e) fs x (effect e x before) wf l t in
-          let two = current_later (locks e) fs x before wf l t in
-          left ∙ (one ∙ ap (effect e x) (sym (right ∙ two)))
+          let t = touches_from_alters (locks_in entry) key a in
+          let one = current_later (locks_in entry) following key (effect entry key before) wf l t in
+          let two = current_later (locks_in entry) following key before wf l t in
+          left ∙ (one ∙ ap (effect entry key) (sym (right ∙ two)))
       by_cases (inr a) =
-          let one = we.kept x before a in
-          let two = we.kept x (current x fs before) a in
-          left ∙ (ap (current x fs) one ∙ (sym two ∙ ap (effect e x) (sym right)))
+          let one = we.kept key before a in
+          let two = we.kept key (current key following before) a in
+          left ∙ (ap (current key following) one ∙ (sym two ∙ ap (effect entry key) (sym right)))

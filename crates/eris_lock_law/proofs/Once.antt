@@ -14,125 +14,125 @@ use Rattle.eris_txn.specs.declared.body.Body.TheVariants.{Abort, Commit, Indepen
 use Rattle.std.proofs.Common.{Bool, List, [], ap, cond, false, inl, inr, refl, sym, true, ◌∙◌, ◌∷◌, ◌≡◌, ◌⊎◌}
 use Rattle.std.proofs.lemmas.Bool.{both_ways, cases_Bool, or_from, or_left, or_right}
 
-abbrev pub it : TxnId → Answer → Served
-it id a = record { id = id; answer = a }
+abbrev pub answer_to : TxnId → Answer → Served
+answer_to id answer = record { id = id; answer = answer }
 
 -- the plain run of a shard has no_values of an id that it has seen
-pub not_again : (ps : List ShardPacket) (m : Values) (seen decided : List TxnId) (id : TxnId) (a : Answer) → is_among id seen ≡ true → StandsIn (it id a) (plain_run m seen decided ps) → ⊥
-not_again [] m seen decided id a h = λ k. k
-not_again (p ∷ ps) m seen decided id a h = by_test (is_conclusory p.body) (is_among p.id seen) refl
-    (λ d. not_again ps m seen d id a h) (λ n. not_again ps n (p.id ∷ seen) decided id a (or_right _ _ h))
+pub not_again : (packets : List ShardPacket) (values : Values) (seen decided : List TxnId) (id : TxnId) (answer : Answer) → is_among id seen ≡ true → StandsIn (answer_to id answer) (plain_run values seen decided packets) → ⊥
+not_again [] values seen decided id answer h = λ k. k
+not_again (packet ∷ packets) values seen decided id answer h = by_test (is_conclusory packet.body) (is_among packet.id seen) refl
+    (λ d. not_again packets values seen d id answer h) (λ others. not_again packets others (packet.id ∷ seen) decided id answer (or_right _ _ h))
   where
-    by_test : (t u : Bool) → is_among p.id seen ≡ u → ((d : List TxnId) → StandsIn (it id a) (plain_run m seen d ps) → ⊥) → ((n : Values) → StandsIn (it id a) (plain_run n (p.id ∷ seen) decided ps) → ⊥)
-        → StandsIn (it id a) (elim t [
-          | true ↦ plain_run m seen (p.id ∷ decided) ps
-          | false ↦ elim u [
-            | true ↦ plain_run m seen decided ps
-            | false ↦ it p.id (answer_of p.body m) ∷ plain_run (left_after p.body (cond (is_among p.id decided) [] (writes_in p.id ps)) m) (p.id ∷ seen) decided ps
+    by_test : (test other_test : Bool) → is_among packet.id seen ≡ other_test → ((d : List TxnId) → StandsIn (answer_to id answer) (plain_run values seen d packets) → ⊥) → ((others : Values) → StandsIn (answer_to id answer) (plain_run others (packet.id ∷ seen) decided packets) → ⊥)
+        → StandsIn (answer_to id answer) (elim test [
+          | true ↦ plain_run values seen (packet.id ∷ decided) packets
+          | false ↦ elim other_test [
+            | true ↦ plain_run values seen decided packets
+            | false ↦ answer_to packet.id (answer_of packet.body values) ∷ plain_run (left_after packet.body (cond (is_among packet.id decided) [] (writes_in packet.id packets)) values) (packet.id ∷ seen) decided packets
           ]
         ]) → ⊥
-    by_test true u e skip go k = skip (p.id ∷ decided) k
+    by_test true other_test e skip go k = skip (packet.id ∷ decided) k
     by_test false true e skip go k = skip decided k
     by_test false false e skip go (inl k) =
         let same = ap (λ (d : Served). d.id) k in
         both_ways _ e (ap (λ i. is_among i seen) same ∙ h)
-    by_test false false e skip go (inr k) = go (left_after p.body (cond (is_among p.id decided) [] (writes_in p.id ps)) m) k
+    by_test false false e skip go (inr k) = go (left_after packet.body (cond (is_among packet.id decided) [] (writes_in packet.id packets)) values) k
 
 -- and no id twice
-pub stands_once : (ps : List ShardPacket) (m : Values) (seen decided : List TxnId) (id : TxnId) (a b : Answer)
-    → StandsIn (it id a) (plain_run m seen decided ps) → StandsIn (it id b) (plain_run m seen decided ps) → a ≡ b
-stands_once [] m seen decided id a b = λ h k. absurd h
-stands_once (p ∷ ps) m seen decided id a b = by_test (is_conclusory p.body) (is_among p.id seen)
-    (λ d. stands_once ps m seen d id a b) (λ n. stands_once ps n (p.id ∷ seen) decided id a b)
+pub stands_once : (packets : List ShardPacket) (values : Values) (seen decided : List TxnId) (id : TxnId) (answer b : Answer)
+    → StandsIn (answer_to id answer) (plain_run values seen decided packets) → StandsIn (answer_to id b) (plain_run values seen decided packets) → answer ≡ b
+stands_once [] values seen decided id answer b = λ h k. absurd h
+stands_once (packet ∷ packets) values seen decided id answer b = by_test (is_conclusory packet.body) (is_among packet.id seen)
+    (λ d. stands_once packets values seen d id answer b) (λ others. stands_once packets others (packet.id ∷ seen) decided id answer b)
   where
-    after_it : (n : Values) (c : Answer) → p.id ≡ id → StandsIn (it id c) (plain_run n (p.id ∷ seen) decided ps) → ⊥
-    after_it n c e k = not_again ps n (p.id ∷ seen) decided id c (or_left _ _ (same_id-from id p.id (sym e))) k
+    after_it : (others : Values) (other_answer : Answer) → packet.id ≡ id → StandsIn (answer_to id other_answer) (plain_run others (packet.id ∷ seen) decided packets) → ⊥
+    after_it others other_answer e k = not_again packets others (packet.id ∷ seen) decided id other_answer (or_left _ _ (same_id-from id packet.id (sym e))) k
 
-    by_test : (t u : Bool) → ((d : List TxnId) → StandsIn (it id a) (plain_run m seen d ps) → StandsIn (it id b) (plain_run m seen d ps) → a ≡ b)
-        → ((n : Values) → StandsIn (it id a) (plain_run n (p.id ∷ seen) decided ps) → StandsIn (it id b) (plain_run n (p.id ∷ seen) decided ps) → a ≡ b)
-        → StandsIn (it id a) (elim t [
-          | true ↦ plain_run m seen (p.id ∷ decided) ps
-          | false ↦ elim u [
-            | true ↦ plain_run m seen decided ps
-            | false ↦ it p.id (answer_of p.body m) ∷ plain_run (left_after p.body (cond (is_among p.id decided) [] (writes_in p.id ps)) m) (p.id ∷ seen) decided ps
+    by_test : (test other_test : Bool) → ((d : List TxnId) → StandsIn (answer_to id answer) (plain_run values seen d packets) → StandsIn (answer_to id b) (plain_run values seen d packets) → answer ≡ b)
+        → ((others : Values) → StandsIn (answer_to id answer) (plain_run others (packet.id ∷ seen) decided packets) → StandsIn (answer_to id b) (plain_run others (packet.id ∷ seen) decided packets) → answer ≡ b)
+        → StandsIn (answer_to id answer) (elim test [
+          | true ↦ plain_run values seen (packet.id ∷ decided) packets
+          | false ↦ elim other_test [
+            | true ↦ plain_run values seen decided packets
+            | false ↦ answer_to packet.id (answer_of packet.body values) ∷ plain_run (left_after packet.body (cond (is_among packet.id decided) [] (writes_in packet.id packets)) values) (packet.id ∷ seen) decided packets
           ]
         ])
-        → StandsIn (it id b) (elim t [
-          | true ↦ plain_run m seen (p.id ∷ decided) ps
-          | false ↦ elim u [
-            | true ↦ plain_run m seen decided ps
-            | false ↦ it p.id (answer_of p.body m) ∷ plain_run (left_after p.body (cond (is_among p.id decided) [] (writes_in p.id ps)) m) (p.id ∷ seen) decided ps
+        → StandsIn (answer_to id b) (elim test [
+          | true ↦ plain_run values seen (packet.id ∷ decided) packets
+          | false ↦ elim other_test [
+            | true ↦ plain_run values seen decided packets
+            | false ↦ answer_to packet.id (answer_of packet.body values) ∷ plain_run (left_after packet.body (cond (is_among packet.id decided) [] (writes_in packet.id packets)) values) (packet.id ∷ seen) decided packets
           ]
-        ]) → a ≡ b
-    by_test true u skip go h k = skip (p.id ∷ decided) h k
+        ]) → answer ≡ b
+    by_test true other_test skip go h k = skip (packet.id ∷ decided) h k
     by_test false true skip go h k = skip decided h k
     by_test false false skip go (inl h) (inl k) = sym (ap (λ (d : Served). d.answer) h) ∙ ap (λ (d : Served). d.answer) k
-    by_test false false skip go (inl h) (inr k) = absurd (after_it (left_after p.body (cond (is_among p.id decided) [] (writes_in p.id ps)) m) b (ap (λ (d : Served). d.id) h) k)
-    by_test false false skip go (inr h) (inl k) = absurd (after_it (left_after p.body (cond (is_among p.id decided) [] (writes_in p.id ps)) m) a (ap (λ (d : Served). d.id) k) h)
-    by_test false false skip go (inr h) (inr k) = go (left_after p.body (cond (is_among p.id decided) [] (writes_in p.id ps)) m) h k
+    by_test false false skip go (inl h) (inr k) = absurd (after_it (left_after packet.body (cond (is_among packet.id decided) [] (writes_in packet.id packets)) values) b (ap (λ (d : Served). d.id) h) k)
+    by_test false false skip go (inr h) (inl k) = absurd (after_it (left_after packet.body (cond (is_among packet.id decided) [] (writes_in packet.id packets)) values) answer (ap (λ (d : Served). d.id) k) h)
+    by_test false false skip go (inr h) (inr k) = go (left_after packet.body (cond (is_among packet.id decided) [] (writes_in packet.id packets)) values) h k
 
--- nor does it answer an id that it has seen
-not_served : (ps : List ShardPacket) (m : Values) (seen decided : List TxnId) (id : TxnId) → is_among id seen ≡ true → is_served id (plain_run m seen decided ps) ≡ false
-not_served [] m seen decided id h = refl
-not_served (p ∷ ps) m seen decided id h = by_test (is_conclusory p.body) (is_among p.id seen) refl
-    (λ d. not_served ps m seen d id h) (λ n. not_served ps n (p.id ∷ seen) decided id (or_right _ _ h))
+-- nor does answer_to answer an id that it has seen
+not_served : (packets : List ShardPacket) (values : Values) (seen decided : List TxnId) (id : TxnId) → is_among id seen ≡ true → is_served id (plain_run values seen decided packets) ≡ false
+not_served [] values seen decided id h = refl
+not_served (packet ∷ packets) values seen decided id h = by_test (is_conclusory packet.body) (is_among packet.id seen) refl
+    (λ concluded. not_served packets values seen concluded id h) (λ others. not_served packets others (packet.id ∷ seen) decided id (or_right _ _ h))
   where
-    apart : is_among p.id seen ≡ false → ((same_id id p.id ≡ true) ⊎ (same_id id p.id ≡ false)) → same_id id p.id ≡ false
-    apart e (inl t) = absurd (both_ways _ e (ap (λ i. is_among i seen) (sym (same_id-true id p.id t)) ∙ h))
-    apart e (inr t) = t
+    apart : is_among packet.id seen ≡ false → ((same_id id packet.id ≡ true) ⊎ (same_id id packet.id ≡ false)) → same_id id packet.id ≡ false
+    apart e (inl test) = absurd (both_ways _ e (ap (λ i. is_among i seen) (sym (same_id-true id packet.id test)) ∙ h))
+    apart e (inr test) = test
 
-    by_test : (t u : Bool) → is_among p.id seen ≡ u → ((d : List TxnId) → is_served id (plain_run m seen d ps) ≡ false) → ((n : Values) → is_served id (plain_run n (p.id ∷ seen) decided ps) ≡ false)
-        → is_served id (elim t [
-          | true ↦ plain_run m seen (p.id ∷ decided) ps
-          | false ↦ elim u [
-            | true ↦ plain_run m seen decided ps
-            | false ↦ it p.id (answer_of p.body m) ∷ plain_run (left_after p.body (writes_at p.id decided ps) m) (p.id ∷ seen) decided ps
+    by_test : (test other_test : Bool) → is_among packet.id seen ≡ other_test → ((concluded : List TxnId) → is_served id (plain_run values seen concluded packets) ≡ false) → ((others : Values) → is_served id (plain_run others (packet.id ∷ seen) decided packets) ≡ false)
+        → is_served id (elim test [
+          | true ↦ plain_run values seen (packet.id ∷ decided) packets
+          | false ↦ elim other_test [
+            | true ↦ plain_run values seen decided packets
+            | false ↦ answer_to packet.id (answer_of packet.body values) ∷ plain_run (left_after packet.body (writes_at packet.id decided packets) values) (packet.id ∷ seen) decided packets
           ]
         ]) ≡ false
-    by_test true u e skip go = skip (p.id ∷ decided)
+    by_test true other_test e skip go = skip (packet.id ∷ decided)
     by_test false true e skip go = skip decided
-    by_test false false e skip go = or_from _ _ (apart e (cases_Bool (same_id id p.id))) (go (left_after p.body (writes_at p.id decided ps) m))
+    by_test false false e skip go = or_from _ _ (apart e (cases_Bool (same_id id packet.id))) (go (left_after packet.body (writes_at packet.id decided packets) values))
 
 -- THE PLAIN RUN ANSWERS NO ID TWICE
-pub each_once : (ps : List ShardPacket) (m : Values) (seen decided : List TxnId) → EachIdOnce (plain_run m seen decided ps)
-each_once [] m seen decided = tt
-each_once (p ∷ ps) m seen decided = by_test (is_conclusory p.body) (is_among p.id seen) (λ d. each_once ps m seen d) (λ n. each_once ps n (p.id ∷ seen) decided)
+pub each_once : (packets : List ShardPacket) (values : Values) (seen decided : List TxnId) → EachIdOnce (plain_run values seen decided packets)
+each_once [] values seen decided = tt
+each_once (packet ∷ packets) values seen decided = by_test (is_conclusory packet.body) (is_among packet.id seen) (λ concluded. each_once packets values seen concluded) (λ others. each_once packets others (packet.id ∷ seen) decided)
   where
-    by_test : (t u : Bool) → ((d : List TxnId) → EachIdOnce (plain_run m seen d ps)) → ((n : Values) → EachIdOnce (plain_run n (p.id ∷ seen) decided ps))
-        → EachIdOnce (elim t [
-          | true ↦ plain_run m seen (p.id ∷ decided) ps
-          | false ↦ elim u [
-            | true ↦ plain_run m seen decided ps
-            | false ↦ it p.id (answer_of p.body m) ∷ plain_run (left_after p.body (writes_at p.id decided ps) m) (p.id ∷ seen) decided ps
+    by_test : (test other_test : Bool) → ((concluded : List TxnId) → EachIdOnce (plain_run values seen concluded packets)) → ((others : Values) → EachIdOnce (plain_run others (packet.id ∷ seen) decided packets))
+        → EachIdOnce (elim test [
+          | true ↦ plain_run values seen (packet.id ∷ decided) packets
+          | false ↦ elim other_test [
+            | true ↦ plain_run values seen decided packets
+            | false ↦ answer_to packet.id (answer_of packet.body values) ∷ plain_run (left_after packet.body (writes_at packet.id decided packets) values) (packet.id ∷ seen) decided packets
           ]
         ])
-    by_test true u skip go = skip (p.id ∷ decided)
+    by_test true other_test skip go = skip (packet.id ∷ decided)
     by_test false true skip go = skip decided
     by_test false false skip go = (
-      not_served ps (left_after p.body (writes_at p.id decided ps) m) (p.id ∷ seen) decided p.id (or_left _ _ (same_id-from p.id p.id refl)),
-      go (left_after p.body (writes_at p.id decided ps) m),
+      not_served packets (left_after packet.body (writes_at packet.id decided packets) values) (packet.id ∷ seen) decided packet.id (or_left _ _ (same_id-from packet.id packet.id refl)),
+      go (left_after packet.body (writes_at packet.id decided packets) values),
     )
 
-no_abort : (b : Body) (m : Values) → is_conclusory b ≡ false → answer_of b m ≡ Aborted → ⊥
-no_abort (Independent ops) m h e = cc
-no_abort (Prelim ls) m h e = cc
-no_abort (Commit keys writes) m h e = cc
-no_abort (Abort keys) m h e = cc
+no_abort : (body : Body) (values : Values) → is_conclusory body ≡ false → answer_of body values ≡ Aborted → ⊥
+no_abort (Independent ops) values h e = cc
+no_abort (Prelim ls) values h e = cc
+no_abort (Commit keys writes) values h e = cc
+no_abort (Abort keys) values h e = cc
 
 -- AND NONE BY ABORTED
-pub never_aborted : (ps : List ShardPacket) (m : Values) (seen decided : List TxnId) (id : TxnId) → StandsIn (it id Aborted) (plain_run m seen decided ps) → ⊥
-never_aborted [] m seen decided id = λ k. k
-never_aborted (p ∷ ps) m seen decided id = by_test (is_conclusory p.body) refl (is_among p.id seen) (λ d. never_aborted ps m seen d id) (λ n. never_aborted ps n (p.id ∷ seen) decided id)
+pub never_aborted : (packets : List ShardPacket) (values : Values) (seen decided : List TxnId) (id : TxnId) → StandsIn (answer_to id Aborted) (plain_run values seen decided packets) → ⊥
+never_aborted [] values seen decided id = λ k. k
+never_aborted (packet ∷ packets) values seen decided id = by_test (is_conclusory packet.body) refl (is_among packet.id seen) (λ d. never_aborted packets values seen d id) (λ others. never_aborted packets others (packet.id ∷ seen) decided id)
   where
-    by_test : (t : Bool) → is_conclusory p.body ≡ t → (u : Bool) → ((d : List TxnId) → StandsIn (it id Aborted) (plain_run m seen d ps) → ⊥) → ((n : Values) → StandsIn (it id Aborted) (plain_run n (p.id ∷ seen) decided ps) → ⊥)
-        → StandsIn (it id Aborted) (elim t [
-          | true ↦ plain_run m seen (p.id ∷ decided) ps
-          | false ↦ elim u [
-            | true ↦ plain_run m seen decided ps
-            | false ↦ it p.id (answer_of p.body m) ∷ plain_run (left_after p.body (writes_at p.id decided ps) m) (p.id ∷ seen) decided ps
+    by_test : (test : Bool) → is_conclusory packet.body ≡ test → (other_test : Bool) → ((d : List TxnId) → StandsIn (answer_to id Aborted) (plain_run values seen d packets) → ⊥) → ((others : Values) → StandsIn (answer_to id Aborted) (plain_run others (packet.id ∷ seen) decided packets) → ⊥)
+        → StandsIn (answer_to id Aborted) (elim test [
+          | true ↦ plain_run values seen (packet.id ∷ decided) packets
+          | false ↦ elim other_test [
+            | true ↦ plain_run values seen decided packets
+            | false ↦ answer_to packet.id (answer_of packet.body values) ∷ plain_run (left_after packet.body (writes_at packet.id decided packets) values) (packet.id ∷ seen) decided packets
           ]
         ]) → ⊥
-    by_test true c u skip go k = skip (p.id ∷ decided) k
+    by_test true c other_test skip go k = skip (packet.id ∷ decided) k
     by_test false c true skip go k = skip decided k
-    by_test false c false skip go (inl k) = no_abort p.body m c (ap (λ (d : Served). d.answer) k)
-    by_test false c false skip go (inr k) = go (left_after p.body (writes_at p.id decided ps) m) k
+    by_test false c false skip go (inl k) = no_abort packet.body values c (ap (λ (d : Served). d.answer) k)
+    by_test false c false skip go (inr k) = go (left_after packet.body (writes_at packet.id decided packets) values) k
