@@ -1,5 +1,6 @@
 use Rattle.eris_locks.specs.Each.{Each}
-use Rattle.std.proofs.Common.{List, [], ◌++◌, ◌∷◌}
+use Rattle.std.proofs.Common.{Bool, List, [], cond, false, true, ◌++◌, ◌∷◌}
+use Rattle.std.specs.List.{filter}
 
 module _ {X : Type 0} (P : X → Type 0) where
   pub Each-left : (xs ys : List X) → Each P (xs ++ ys) → Each P xs
@@ -26,3 +27,11 @@ module _ {X : Type 0} (P : X → Type 0) where
   pub Each-with : (Q R : X → Type 0) → ((x : X) → P x → Q x → R x) → (xs : List X) → Each P xs → Each Q xs → Each R xs
   Each-with Q R f [] h k = tt
   Each-with Q R f (x ∷ xs) h k = (f x h.0 k.0, Each-with Q R f xs h.1 k.1)
+
+  pub Each-filter : (test : X → Bool) (xs : List X) → Each P xs → Each P (filter test xs)
+  Each-filter test [] h = tt
+  Each-filter test (x ∷ xs) h = by_test (test x) (Each-filter test xs h.1)
+    where
+      by_test : (t : Bool) → Each P (filter test xs) → Each P (cond t (x ∷ filter test xs) (filter test xs))
+      by_test true k = (h.0, k)
+      by_test false k = k

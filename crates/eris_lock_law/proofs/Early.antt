@@ -1,7 +1,7 @@
 use Rattle.eris_base.specs.declared.ids.Phase.{Phase}
 use Rattle.eris_base.specs.declared.ids.Place.{Place}
 use Rattle.eris_base.specs.declared.ids.TxnId.{TxnId}
-use Rattle.eris_lock_law.proofs.Each.{Each-append, Each-left, Each-right}
+use Rattle.eris_lock_law.proofs.Each.{Each-append, Each-filter, Each-left, Each-right}
 use Rattle.eris_lock_law.proofs.Fit.{known_here, known_noted}
 use Rattle.eris_lock_law.proofs.Ids.{same_id-true}
 use Rattle.eris_lock_law.proofs.Prelims.{each_aborted_late, prelim_phase}
@@ -24,7 +24,24 @@ use Rattle.std.proofs.Common.{Bool, List, None, Option, Some, [], ap, append_ass
 use Rattle.std.proofs.lemmas.Bool.{and_from, and_parts, both_ways, cases_Bool, cond-false, cond-true, or_cases, or_left, or_right}
 use Rattle.std.proofs.lemmas.List.{append-nil}
 use Rattle.std.proofs.lemmas.List.Folds.{list_any-append}
-use Rattle.std.specs.List.{filter, list_any}
+use Rattle.std.specs.List.{list_any}
+
+-- what holds after one was executed is known
+pub held_executed : (recorded : TxnId → Phase → Option Answer) (id : TxnId) (body : Body) (given : Answer) (holding : List Held) → ((other_id : TxnId) → holds other_id holding ≡ true → is_decided (recorded other_id Phase.Prelim) ≡ true)
+    → (other_id : TxnId) → holds other_id (holding_after id body holding) ≡ true → is_decided (note recorded id (phase_of body) given other_id Phase.Prelim) ≡ true
+held_executed recorded id (Independent ops) given holding g other_id h = known_noted recorded id Phase.Whole given other_id Phase.Prelim (g other_id h)
+held_executed recorded id (Prelim ls) given holding g other_id h =
+    by_place (or_cases (holds other_id holding) (holds other_id (record { id = id; locks = ls } ∷ [])) (sym (list_any-append (λ (held : Held). same_id other_id held.id) holding (record { id = id; locks = ls } ∷ [])) ∙ h))
+  where
+    last : ((same_id other_id id ≡ true) ⊎ (false ≡ true)) → is_decided (note recorded id Phase.Prelim given other_id Phase.Prelim) ≡ true
+    last (inl q) = subst (λ (that_id : TxnId). is_decided (note recorded id Phase.Prelim given that_id Phase.Prelim) ≡ true) (sym (same_id-true other_id id q)) (known_here recorded id Phase.Prelim given)
+    last (inr q) = absurd (both_ways _ refl q)
+
+    by_place : ((holds other_id holding ≡ true) ⊎ ((same_id other_id id || false) ≡ true)) → is_decided (note recorded id Phase.Prelim given other_id Phase.Prelim) ≡ true
+    by_place (inl held) = known_noted recorded id Phase.Prelim given other_id Phase.Prelim (g other_id held)
+    by_place (inr held) = last (or_cases (same_id other_id id) false held)
+held_executed recorded id (Commit keys writes) given holding g other_id h = known_noted recorded id Phase.Conclude given other_id Phase.Prelim (g other_id h)
+held_executed recorded id (Abort keys) given holding g other_id h = known_noted recorded id Phase.Conclude given other_id Phase.Prelim (g other_id h)
 
 module _ (E : TxnId → Type 0) (kind : TxnId → Bool) where
   -- What is known of preliminaries, where those of `came` came and these packets wait: E holds of an id that
@@ -96,22 +113,6 @@ module _ (E : TxnId → Type 0) (kind : TxnId → Bool) where
       first : ((q waiter ≡ true) ⊎ (list_any q (before ++ packet ∷ packets) ≡ true)) → (list_any q (before ++ packet ∷ packets) ≡ true → (q packet ≡ true) ⊎ (list_any q (before ++ packets) ≡ true)) → (q packet ≡ true) ⊎ (list_any q (waiter ∷ (before ++ packets)) ≡ true)
       first (inl k) ih = inr (or_left (q waiter) (list_any q (before ++ packets)) k)
       first (inr k) ih = later (ih k)
-
-  held_executed : (recorded : TxnId → Phase → Option Answer) (id : TxnId) (body : Body) (given : Answer) (holding : List Held) → ((other_id : TxnId) → holds other_id holding ≡ true → is_decided (recorded other_id Phase.Prelim) ≡ true)
-      → (other_id : TxnId) → holds other_id (holding_after id body holding) ≡ true → is_decided (note recorded id (phase_of body) given other_id Phase.Prelim) ≡ true
-  held_executed recorded id (Independent ops) given holding g other_id h = known_noted recorded id Phase.Whole given other_id Phase.Prelim (g other_id h)
-  held_executed recorded id (Prelim ls) given holding g other_id h =
-      by_place (or_cases (holds other_id holding) (holds other_id (record { id = id; locks = ls } ∷ [])) (sym (list_any-append (λ (held : Held). same_id other_id held.id) holding (record { id = id; locks = ls } ∷ [])) ∙ h))
-    where
-      last : ((same_id other_id id ≡ true) ⊎ (false ≡ true)) → is_decided (note recorded id Phase.Prelim given other_id Phase.Prelim) ≡ true
-      last (inl q) = subst (λ (that_id : TxnId). is_decided (note recorded id Phase.Prelim given that_id Phase.Prelim) ≡ true) (sym (same_id-true other_id id q)) (known_here recorded id Phase.Prelim given)
-      last (inr q) = absurd (both_ways _ refl q)
-
-      by_place : ((holds other_id holding ≡ true) ⊎ ((same_id other_id id || false) ≡ true)) → is_decided (note recorded id Phase.Prelim given other_id Phase.Prelim) ≡ true
-      by_place (inl held) = known_noted recorded id Phase.Prelim given other_id Phase.Prelim (g other_id held)
-      by_place (inr held) = last (or_cases (same_id other_id id) false held)
-  held_executed recorded id (Commit keys writes) given holding g other_id h = known_noted recorded id Phase.Conclude given other_id Phase.Prelim (g other_id h)
-  held_executed recorded id (Abort keys) given holding g other_id h = known_noted recorded id Phase.Conclude given other_id Phase.Prelim (g other_id h)
 
   -- a preliminary's answer that is noted makes it known
   known_prelim : (recorded : TxnId → Phase → Option Answer) (packet : ShardPacket) (given : Answer) (id : TxnId) → is_prelim_of id packet ≡ true → is_decided (note recorded packet.id (phase_of packet.body) given id Phase.Prelim) ≡ true
@@ -320,14 +321,6 @@ module _ (E : TxnId → Type 0) (kind : TxnId → Bool) where
       by_test false test (inl k) ih = inr (or_left (is_prelim_of other_id waiter) (list_any (is_prelim_of other_id) (no_longer_waiting id waiters)) k)
       by_test false test (inr k) ih = further (ih k)
 
-  Each_filter : (P : ShardPacket → Type 0) (q : ShardPacket → Bool) (waiters : List ShardPacket) → Each P waiters → Each P (filter q waiters)
-  Each_filter P q [] h = tt
-  Each_filter P q (waiter ∷ waiters) h = by_test (q waiter) (Each_filter P q waiters h.1)
-    where
-      by_test : (test : Bool) → Each P (filter q waiters) → Each P (cond test (waiter ∷ filter q waiters) (filter q waiters))
-      by_test true k = (h.0, k)
-      by_test false k = k
-
   each_late : (id : TxnId) (at : Place) (waiters : List ShardPacket) → E id → Each (λ waiter. is_prelim_of id waiter ≡ true → EarlyDone (done at waiter Aborted true)) waiters
   each_late id at [] h = tt
   each_late id at (waiter ∷ waiters) h = ((λ t q x. subst E (same_id-true id waiter.id (and_parts (same_id id waiter.id) (is_prelim waiter.body) t).0) h), each_late id at waiters h)
@@ -375,7 +368,7 @@ module _ (E : TxnId → Type 0) (kind : TxnId → Bool) where
             ruled = ruled_more state.decided (note state.recorded packet.id Phase.Prelim Aborted) packet.id Aborted (ruled_kept state.decided state.recorded packet.id Phase.Prelim Aborted e.ruled) (inl early);
             known = λ id k. by_known id (e.known id k);
             held = λ id k. known_noted state.recorded packet.id Phase.Prelim Aborted id Phase.Prelim (e.held id k);
-            waiting = Each_filter _ (λ v. not (is_prelim_of packet.id v)) state.waiting e.waiting;
+            waiting = Each-filter _ (λ v. not (is_prelim_of packet.id v)) state.waiting e.waiting;
           }) in
           record {
             state = r.state;

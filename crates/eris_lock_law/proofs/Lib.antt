@@ -14,6 +14,7 @@ mod Shape
 mod Stuck
 mod Table
 mod Early
+mod Apart
 mod Ended
 mod Final
 mod Lost

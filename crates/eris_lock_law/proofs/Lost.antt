@@ -4,9 +4,8 @@ use Rattle.eris_base.specs.declared.ids.TxnId.{TxnId}
 use Rattle.eris_lock_law.proofs.Each.{Each-append}
 use Rattle.eris_lock_law.proofs.Final.{dones_of_prefix}
 use Rattle.eris_lock_law.proofs.Ids.{same_id-from, same_id-true}
-use Rattle.eris_lock_law.proofs.Log.{locks_in}
 use Rattle.eris_lock_law.proofs.Prelims.{each_aborted_late}
-use Rattle.eris_lock_law.proofs.Table.{is_values, ran, said_holds, same_phases}
+use Rattle.eris_lock_law.proofs.Table.{is_granted, ran, said_holds, same_phases}
 use Rattle.eris_locks.specs.Each.{Each}
 use Rattle.eris_locks.specs.Law.{HoldsOrDecided, Said}
 use Rattle.eris_locks.specs.LockTable.{Stepped, aborted_late, all_also, also, answer_of, arrive, arrive_new, conclude, conclude_first, done, execute, only, release, run_dones, run_state, step, step_by}
@@ -21,20 +20,20 @@ use Rattle.eris_txn.specs.declared.answer.Answer.TheVariants.{Aborted, Committed
 use Rattle.eris_txn.specs.declared.body.Body.{Body}
 use Rattle.eris_txn.specs.declared.body.Body.TheVariants.{Abort, Commit, Independent, Prelim}
 use Rattle.eris_txn.specs.declared.plan.Write.{Write}
-use Rattle.std.proofs.Common.{Bool, List, None, Option, Some, [], ap, cond, false, inl, inr, not, refl, subst, sym, true, ℕ, ◌&&◌, ◌++◌, ◌∙◌, ◌∷◌, ◌≡◌, ◌⊎◌}
+use Rattle.std.proofs.Common.{Bool, List, None, Option, Some, [], ap, cond, false, inl, inr, not, refl, subst, sym, true, ◌&&◌, ◌++◌, ◌∙◌, ◌∷◌, ◌≡◌, ◌⊎◌}
 use Rattle.std.proofs.lemmas.Bool.{and_from, and_parts, both_ways, cases_Bool, cond-false, cond-true, or_from, or_parts}
 use Rattle.std.proofs.lemmas.List.Folds.{list_any-append}
 use Rattle.std.specs.List.{filter, list_any}
 
--- an id that was decided with no values given: none are given any more
+-- an id that was decided before its preliminary was granted: it is granted no more
 module _ (id : TxnId) where
   record Lost (state : StoreState) : Type 0 where
     decided : is_decided (state.decided id) ≡ true
-    unread : is_values (state.recorded id Phase.Prelim) ≡ false
+    unread : is_granted (state.recorded id Phase.Prelim) ≡ false
     gone : list_any (is_prelim_of id) state.waiting ≡ false
 
   abbrev Silent : Done → Type 0
-  Silent given = given.id ≡ id → given.phase ≡ Phase.Prelim → is_values (Some given.answer) ≡ false
+  Silent given = given.id ≡ id → given.phase ≡ Phase.Prelim → is_granted (Some given.answer) ≡ false
 
   record Stays (stepped : Stepped) : Type 0 where
     state : Lost stepped.state
@@ -46,14 +45,14 @@ module _ (id : TxnId) where
   not_its_prelim other_id (Commit keys writes) n e r = cc
   not_its_prelim other_id (Abort keys) n e r = cc
 
-  noted_other : (recorded : TxnId → Phase → Option Answer) (other_id : TxnId) (phase : Phase) (answer : Answer) → (other_id ≡ id → phase ≡ Phase.Prelim → is_values (Some answer) ≡ false) → is_values (recorded id Phase.Prelim) ≡ false → is_values (note recorded other_id phase answer id Phase.Prelim) ≡ false
+  noted_other : (recorded : TxnId → Phase → Option Answer) (other_id : TxnId) (phase : Phase) (answer : Answer) → (other_id ≡ id → phase ≡ Phase.Prelim → is_granted (Some answer) ≡ false) → is_granted (recorded id Phase.Prelim) ≡ false → is_granted (note recorded other_id phase answer id Phase.Prelim) ≡ false
   noted_other recorded other_id phase answer n u = by_test (cases_Bool (same_id other_id id && same_phase phase Phase.Prelim))
     where
-      by_test : (((same_id other_id id && same_phase phase Phase.Prelim) ≡ true) ⊎ ((same_id other_id id && same_phase phase Phase.Prelim) ≡ false)) → is_values (note recorded other_id phase answer id Phase.Prelim) ≡ false
+      by_test : (((same_id other_id id && same_phase phase Phase.Prelim) ≡ true) ⊎ ((same_id other_id id && same_phase phase Phase.Prelim) ≡ false)) → is_granted (note recorded other_id phase answer id Phase.Prelim) ≡ false
       by_test (inl t) =
           let parts = and_parts (same_id other_id id) (same_phase phase Phase.Prelim) t in
-          ap is_values (cond-true _ _ _ t) ∙ n (same_id-true other_id id parts.0) (same_phases phase Phase.Prelim parts.1)
-      by_test (inr k) = ap is_values (cond-false _ _ _ k) ∙ u
+          ap is_granted (cond-true _ _ _ t) ∙ n (same_id-true other_id id parts.0) (same_phases phase Phase.Prelim parts.1)
+      by_test (inr k) = ap is_granted (cond-false _ _ _ k) ∙ u
 
   executes : (at : Place) (state : StoreState) (packet : ShardPacket) (late : Bool) → Lost state → is_prelim_of id packet ≡ false → Stays (only (execute state packet) (done at packet (answer_of packet.body state.values) late))
   executes at state packet late l n = record {
@@ -124,7 +123,7 @@ module _ (id : TxnId) where
       ])
       by_record (Some a) e other_test = record {
         state = l;
-        dones = ((λ q r. sym (ap is_values (ap (λ i. state.recorded i Phase.Prelim) (sym q) ∙ (ap (state.recorded packet.id) (sym r) ∙ e))) ∙ l.unread), tt);
+        dones = ((λ q r. sym (ap is_granted (ap (λ i. state.recorded i Phase.Prelim) (sym q) ∙ (ap (state.recorded packet.id) (sym r) ∙ e))) ∙ l.unread), tt);
       }
       by_record None e true = record { state = l; dones = tt }
       by_record None e false = arrives_new state packet l
@@ -219,7 +218,7 @@ module _ (id : TxnId) where
       Each-append Silent (step state packet).dones (run_dones (step state packet).state packets) one.dones (runs packets (step state packet).state one.state)
 
   -- how it gets lost: the first conclusory doesn't find it holding
-  loses_first : (state : StoreState) (packet : ShardPacket) (outcome : Answer) (writes : List Write) → packet.id ≡ id → phase_of packet.body ≡ Phase.Conclude → holds id state.holding ≡ false → is_values (state.recorded id Phase.Prelim) ≡ false → Stays (conclude_first state packet outcome writes)
+  loses_first : (state : StoreState) (packet : ShardPacket) (outcome : Answer) (writes : List Write) → packet.id ≡ id → phase_of packet.body ≡ Phase.Conclude → holds id state.holding ≡ false → is_granted (state.recorded id Phase.Prelim) ≡ false → Stays (conclude_first state packet outcome writes)
   loses_first state packet outcome writes same ph free un = by_test (holds packet.id state.holding) (list_any (is_prelim_of packet.id) state.waiting) refl refl
     where
       after_wait : StoreState
@@ -249,7 +248,7 @@ module _ (id : TxnId) where
         dones = (concluding state packet Aborted false ph, tt);
       }
 
-  loses : (state : StoreState) (packet : ShardPacket) (outcome : Answer) (writes : List Write) → packet.id ≡ id → phase_of packet.body ≡ Phase.Conclude → state.decided id ≡ None → holds id state.holding ≡ false → is_values (state.recorded id Phase.Prelim) ≡ false → Stays (conclude state packet outcome writes)
+  loses : (state : StoreState) (packet : ShardPacket) (outcome : Answer) (writes : List Write) → packet.id ≡ id → phase_of packet.body ≡ Phase.Conclude → state.decided id ≡ None → holds id state.holding ≡ false → is_granted (state.recorded id Phase.Prelim) ≡ false → Stays (conclude state packet outcome writes)
   loses state packet outcome writes same ph d free un = by_decided (state.decided packet.id) (ap state.decided same ∙ d)
     where
       by_decided : (found : Option Answer) → found ≡ None → Stays (elim found [
@@ -259,7 +258,7 @@ module _ (id : TxnId) where
       by_decided (Some a) e = cc
       by_decided None e = loses_first state packet outcome writes same ph free un
 
-  loses_by : (body : Body) (state : StoreState) (packet : ShardPacket) → packet.body ≡ body → packet.id ≡ id → phase_of packet.body ≡ Phase.Conclude → state.decided id ≡ None → holds id state.holding ≡ false → is_values (state.recorded id Phase.Prelim) ≡ false → Stays (step_by body state packet)
+  loses_by : (body : Body) (state : StoreState) (packet : ShardPacket) → packet.body ≡ body → packet.id ≡ id → phase_of packet.body ≡ Phase.Conclude → state.decided id ≡ None → holds id state.holding ≡ false → is_granted (state.recorded id Phase.Prelim) ≡ false → Stays (step_by body state packet)
   loses_by (Independent ops) state packet e same ph d free un = absurd (first (sym (ap phase_of e) ∙ ph))
     where
       first : Phase.Whole ≡ Phase.Conclude → ⊥
@@ -271,10 +270,10 @@ module _ (id : TxnId) where
   loses_by (Commit keys writes) state packet e same ph d free un = loses state packet Committed writes same ph d free un
   loses_by (Abort keys) state packet e same ph d free un = loses state packet Aborted [] same ph d free un
 
-  silent_said : (read : List (Option ℕ)) (dones : List Done) → Each Silent dones → Said id Phase.Prelim (Answer.Values read) dones → ⊥
-  silent_said read [] h k = k
-  silent_said read (given ∷ dones) h (inl k) = both_ways _ (h.0 k.0 k.1) (ap (λ (answer : Answer). is_values (Some answer)) k.2)
-  silent_said read (given ∷ dones) h (inr k) = silent_said read dones h.1 k
+  silent_said : (answer : Answer) (dones : List Done) → is_granted (Some answer) ≡ true → Each Silent dones → Said id Phase.Prelim answer dones → ⊥
+  silent_said answer [] granted h k = k
+  silent_said answer (given ∷ dones) granted h (inl k) = both_ways _ (h.0 k.0 k.1) (ap (λ (other : Answer). is_granted (Some other)) k.2 ∙ granted)
+  silent_said answer (given ∷ dones) granted h (inr k) = silent_said answer dones granted h.1 k
 
 pub said_parts : (id : TxnId) (phase : Phase) (answer : Answer) (dones others : List Done) → Said id phase answer (dones ++ others) → Said id phase answer dones ⊎ Said id phase answer others
 said_parts id phase answer [] others h = inr h
@@ -285,27 +284,27 @@ said_parts id phase answer (given ∷ dones) others (inr h) = by_part (said_part
     by_part (inl k) = inl (inr k)
     by_part (inr k) = inr k
 
--- WHERE A PRELIMINARY GAVE VALUES, at any time, each conclusory before which none stands finds it holding
-pub said_finds : (id : TxnId) (read : List (Option ℕ)) (front rest : List ShardPacket) (packet : ShardPacket) → packet.id ≡ id → phase_of packet.body ≡ Phase.Conclude
-    → Said id Phase.Prelim (Answer.Values read) (run_dones empty (front ++ packet ∷ rest)) → HoldsOrDecided (run_state empty front) id
-said_finds id read front rest packet same ph k d = by_holds (cases_Bool (holds id (run_state empty front).holding))
+-- WHERE A PRELIMINARY WAS GRANTED, at any time, each conclusory before which none stands finds it holding
+pub said_finds : (id : TxnId) (answer : Answer) (front rest : List ShardPacket) (packet : ShardPacket) → packet.id ≡ id → phase_of packet.body ≡ Phase.Conclude → is_granted (Some answer) ≡ true
+    → Said id Phase.Prelim answer (run_dones empty (front ++ packet ∷ rest)) → HoldsOrDecided (run_state empty front) id
+said_finds id answer front rest packet same ph granted k d = by_holds (cases_Bool (holds id (run_state empty front).holding))
   where
-    un : holds id (run_state empty front).holding ≡ false → is_values ((run_state empty front).recorded id Phase.Prelim) ≡ false
-    un free = by_test (cases_Bool (is_values ((run_state empty front).recorded id Phase.Prelim)))
+    un : holds id (run_state empty front).holding ≡ false → is_granted ((run_state empty front).recorded id Phase.Prelim) ≡ false
+    un free = by_test (cases_Bool (is_granted ((run_state empty front).recorded id Phase.Prelim)))
       where
-        by_test : ((is_values ((run_state empty front).recorded id Phase.Prelim) ≡ true) ⊎ (is_values ((run_state empty front).recorded id Phase.Prelim) ≡ false)) → is_values ((run_state empty front).recorded id Phase.Prelim) ≡ false
+        by_test : ((is_granted ((run_state empty front).recorded id Phase.Prelim) ≡ true) ⊎ (is_granted ((run_state empty front).recorded id Phase.Prelim) ≡ false)) → is_granted ((run_state empty front).recorded id Phase.Prelim) ≡ false
         by_test (inl t) = absurd (both_ways _ free ((ran front).state.values id t d))
         by_test (inr t) = t
 
-    later : holds id (run_state empty front).holding ≡ false → Said id Phase.Prelim (Answer.Values read) (run_dones (run_state empty front) (packet ∷ rest)) → ⊥
+    later : holds id (run_state empty front).holding ≡ false → Said id Phase.Prelim answer (run_dones (run_state empty front) (packet ∷ rest)) → ⊥
     later free s =
         let one = loses_by id packet.body (run_state empty front) packet refl same ph d free (un free) in
-        silent_said id read (run_dones (run_state empty front) (packet ∷ rest)) (Each-append (Silent id) (step (run_state empty front) packet).dones (run_dones (step (run_state empty front) packet).state rest) one.dones (runs id rest (step (run_state empty front) packet).state one.state)) s
+        silent_said id answer (run_dones (run_state empty front) (packet ∷ rest)) granted (Each-append (Silent id) (step (run_state empty front) packet).dones (run_dones (step (run_state empty front) packet).state rest) one.dones (runs id rest (step (run_state empty front) packet).state one.state)) s
 
-    by_part : holds id (run_state empty front).holding ≡ false → (Said id Phase.Prelim (Answer.Values read) (run_dones empty front) ⊎ Said id Phase.Prelim (Answer.Values read) (run_dones (run_state empty front) (packet ∷ rest))) → ⊥
-    by_part free (inl s) = both_ways _ free (said_holds id read front s d)
+    by_part : holds id (run_state empty front).holding ≡ false → (Said id Phase.Prelim answer (run_dones empty front) ⊎ Said id Phase.Prelim answer (run_dones (run_state empty front) (packet ∷ rest))) → ⊥
+    by_part free (inl s) = both_ways _ free (said_holds id answer front granted s d)
     by_part free (inr s) = later free s
 
     by_holds : ((holds id (run_state empty front).holding ≡ true) ⊎ (holds id (run_state empty front).holding ≡ false)) → holds id (run_state empty front).holding ≡ true
     by_holds (inl t) = t
-    by_holds (inr free) = absurd (by_part free (said_parts id Phase.Prelim (Answer.Values read) (run_dones empty front) (run_dones (run_state empty front) (packet ∷ rest)) (subst (λ (dones : List Done). Said id Phase.Prelim (Answer.Values read) dones) (dones_of_prefix front (packet ∷ rest) empty) k)))
+    by_holds (inr free) = absurd (by_part free (said_parts id Phase.Prelim answer (run_dones empty front) (run_dones (run_state empty front) (packet ∷ rest)) (subst (λ (dones : List Done). Said id Phase.Prelim answer dones) (dones_of_prefix front (packet ∷ rest) empty) k)))

@@ -1,9 +1,8 @@
 use Rattle.eris_base.specs.declared.ids.Phase.{Phase}
 use Rattle.eris_base.specs.declared.ids.Place.{Place}
 use Rattle.eris_base.specs.declared.ids.TxnId.{TxnId}
-use Rattle.eris_lock_law.proofs.Each.{Each-append, Each-weaker}
+use Rattle.eris_lock_law.proofs.Each.{Each-append, Each-filter, Each-weaker}
 use Rattle.eris_lock_law.proofs.Ids.{same_id-from, same_id-true}
-use Rattle.eris_lock_law.proofs.Log.{locks_in}
 use Rattle.eris_lock_law.proofs.Prelims.{each_aborted_late}
 use Rattle.eris_locks.specs.Each.{Each}
 use Rattle.eris_locks.specs.Law.{HasPacket, HoldsOrDecided, Said}
@@ -21,17 +20,18 @@ use Rattle.eris_txn.specs.declared.body.Body.{Body}
 use Rattle.eris_txn.specs.declared.body.Body.TheVariants.{Abort, Commit, Independent, Prelim}
 use Rattle.eris_txn.specs.declared.lock.Lock.{Lock}
 use Rattle.eris_txn.specs.declared.plan.Write.{Write}
-use Rattle.std.proofs.Common.{Bool, List, None, Option, Some, [], ap, cond, false, inl, inr, not, refl, subst, sym, true, ℕ, ◌&&◌, ◌++◌, ◌||◌, ◌∙◌, ◌∷◌, ◌≡◌, ◌⊎◌}
+use Rattle.std.proofs.Common.{Bool, List, None, Option, Some, [], ap, cond, false, inl, inr, not, refl, subst, sym, true, ◌&&◌, ◌++◌, ◌||◌, ◌∙◌, ◌∷◌, ◌≡◌, ◌⊎◌}
 use Rattle.std.proofs.lemmas.Bool.{and_parts, both_ways, cases_Bool, cond-false, cond-true, or_cases, or_left, or_right}
 use Rattle.std.proofs.lemmas.List.Folds.{list_any-append}
-use Rattle.std.specs.List.{filter, list_any}
+use Rattle.std.specs.List.{list_any}
 
-abbrev pub is_values : Option Answer → Bool
-is_values None = false
-is_values (Some (Ops ys)) = false
-is_values (Some (Answer.Values vs)) = true
-is_values (Some Committed) = false
-is_values (Some Aborted) = false
+-- an answer that isn't Aborted
+abbrev pub is_granted : Option Answer → Bool
+is_granted None = false
+is_granted (Some (Ops made)) = true
+is_granted (Some (Answer.Values read)) = true
+is_granted (Some Committed) = true
+is_granted (Some Aborted) = false
 
 pub same_phases : (phase other_phase : Phase) → same_phase phase other_phase ≡ true → phase ≡ other_phase
 same_phases Phase.Whole Phase.Whole h = refl
@@ -81,13 +81,13 @@ module _ (H : TxnId → Phase → Type 0) where
   pub record Came (state : StoreState) : Type 0 where
     pub recorded : (id : TxnId) (phase : Phase) (answer : Answer) → state.recorded id phase ≡ Some answer → H id phase
     pub waiting : Each (λ w. H w.id (phase_of w.body)) state.waiting
-    pub values : (id : TxnId) → is_values (state.recorded id Phase.Prelim) ≡ true → HoldsOrDecided state id
+    pub values : (id : TxnId) → is_granted (state.recorded id Phase.Prelim) ≡ true → HoldsOrDecided state id
     pub held : (id : TxnId) → holds id state.holding ≡ true → H id Phase.Prelim
     pub decided : (id : TxnId) (answer : Answer) → state.decided id ≡ Some answer → H id Phase.Conclude
 
   pub record CameDone (state : StoreState) (given : Done) : Type 0 where
     pub from : H given.id given.phase
-    pub firm : given.phase ≡ Phase.Prelim → is_values (Some given.answer) ≡ true → HoldsOrDecided state given.id
+    pub firm : given.phase ≡ Phase.Prelim → is_granted (Some given.answer) ≡ true → HoldsOrDecided state given.id
 
   pub record Goes (s : StoreState) (stepped : Stepped) : Type 0 where
     pub state : Came stepped.state
@@ -105,15 +105,15 @@ module _ (H : TxnId → Phase → Type 0) where
       by_test (inr n) = g i q c (sym (cond-false _ _ _ n) ∙ e)
 
   -- what is noted of values is firm
-  noted_values : (recorded : TxnId → Phase → Option Answer) (id : TxnId) (phase : Phase) (answer : Answer) (F : TxnId → Type 0) → ((other_id : TxnId) → is_values (recorded other_id Phase.Prelim) ≡ true → F other_id)
-      → (phase ≡ Phase.Prelim → is_values (Some answer) ≡ true → F id) → (other_id : TxnId) → is_values (note recorded id phase answer other_id Phase.Prelim) ≡ true → F other_id
-  noted_values recorded id phase answer F g h other_id e = by_test (cases_Bool (same_id id other_id && same_phase phase Phase.Prelim))
+  noted_granted : (recorded : TxnId → Phase → Option Answer) (id : TxnId) (phase : Phase) (answer : Answer) (F : TxnId → Type 0) → ((other_id : TxnId) → is_granted (recorded other_id Phase.Prelim) ≡ true → F other_id)
+      → (phase ≡ Phase.Prelim → is_granted (Some answer) ≡ true → F id) → (other_id : TxnId) → is_granted (note recorded id phase answer other_id Phase.Prelim) ≡ true → F other_id
+  noted_granted recorded id phase answer F g h other_id e = by_test (cases_Bool (same_id id other_id && same_phase phase Phase.Prelim))
     where
       by_test : (((same_id id other_id && same_phase phase Phase.Prelim) ≡ true) ⊎ ((same_id id other_id && same_phase phase Phase.Prelim) ≡ false)) → F other_id
       by_test (inl t) =
           let parts = and_parts _ _ t in
-          subst F (same_id-true id other_id parts.0) (h (same_phases phase Phase.Prelim parts.1) (sym (ap is_values (cond-true _ _ _ t)) ∙ e))
-      by_test (inr n) = g other_id (sym (ap is_values (cond-false _ _ _ n)) ∙ e)
+          subst F (same_id-true id other_id parts.0) (h (same_phases phase Phase.Prelim parts.1) (sym (ap is_granted (cond-true _ _ _ t)) ∙ e))
+      by_test (inr n) = g other_id (sym (ap is_granted (cond-false _ _ _ n)) ∙ e)
 
   executed_held : (id : TxnId) (body : Body) (holding : List Held) → H id (phase_of body) → ((other_id : TxnId) → holds other_id holding ≡ true → H other_id Phase.Prelim) → (other_id : TxnId) → holds other_id (holding_after id body holding) ≡ true → H other_id Phase.Prelim
   executed_held id (Independent ops) holding h g other_id e = g other_id e
@@ -147,7 +147,7 @@ module _ (H : TxnId → Phase → Type 0) where
     state = record {
       recorded = noted_from state.recorded packet.id (phase_of packet.body) (answer_of packet.body state.values) g.recorded h;
       waiting = g.waiting;
-      values = noted_values state.recorded packet.id (phase_of packet.body) (answer_of packet.body state.values) (HoldsOrDecided (execute state packet)) (λ i e d. holds_more i packet.id packet.body state.holding (g.values i e d)) (λ r v d. executed_firm state packet packet.body r);
+      values = noted_granted state.recorded packet.id (phase_of packet.body) (answer_of packet.body state.values) (HoldsOrDecided (execute state packet)) (λ i e d. holds_more i packet.id packet.body state.holding (g.values i e d)) (λ r v d. executed_firm state packet packet.body r);
       held = executed_held packet.id packet.body state.holding h g.held;
       decided = g.decided;
     };
@@ -177,8 +177,8 @@ module _ (H : TxnId → Phase → Type 0) where
         dones = (record { from = w.0; firm = λ r v. ih.keep packet.id (e.dones.0.firm r v) }, ih.dones);
       }
 
-  not_values : (answer : Answer) → is_values (Some answer) ≡ false → (X : Type 0) → is_values (Some answer) ≡ true → X
-  not_values answer n X h = absurd (both_ways _ n h)
+  not_granted : (answer : Answer) → is_granted (Some answer) ≡ false → (X : Type 0) → is_granted (Some answer) ≡ true → X
+  not_granted answer n X h = absurd (both_ways _ n h)
 
   arrives_new : (state : StoreState) (packet : ShardPacket) → Came state → H packet.id (phase_of packet.body) → Goes state (arrive_new state packet)
   arrives_new state packet g h = by_test (is_prelim packet.body && is_decided (state.decided packet.id)) (blocked state.holding state.waiting (locks_of packet.body))
@@ -195,12 +195,12 @@ module _ (H : TxnId → Phase → Type 0) where
         state = record {
           recorded = noted_from state.recorded packet.id (phase_of packet.body) Aborted g.recorded h;
           waiting = g.waiting;
-          values = noted_values state.recorded packet.id (phase_of packet.body) Aborted (HoldsOrDecided state) g.values (λ r v. not_values Aborted refl (HoldsOrDecided state packet.id) v);
+          values = noted_granted state.recorded packet.id (phase_of packet.body) Aborted (HoldsOrDecided state) g.values (λ r v. not_granted Aborted refl (HoldsOrDecided state packet.id) v);
           held = g.held;
           decided = g.decided;
         };
         keep = λ i f. f;
-        dones = (record { from = h; firm = λ r v. not_values Aborted refl (HoldsOrDecided state packet.id) v }, tt);
+        dones = (record { from = h; firm = λ r v. not_granted Aborted refl (HoldsOrDecided state packet.id) v }, tt);
       }
       by_test false true = record {
         state = record { recorded = g.recorded; waiting = Each-append _ state.waiting (packet ∷ []) g.waiting (h, tt); values = g.values; held = g.held; decided = g.decided };
@@ -219,7 +219,7 @@ module _ (H : TxnId → Phase → Type 0) where
       by_record (Some a) e other_test = record {
         state = g;
         keep = λ i f. f;
-        dones = (record { from = h; firm = λ r v. g.values packet.id (ap is_values (ap (state.recorded packet.id) (sym r) ∙ e) ∙ v) }, tt);
+        dones = (record { from = h; firm = λ r v. g.values packet.id (ap is_granted (ap (state.recorded packet.id) (sym r) ∙ e) ∙ v) }, tt);
       }
       by_record None e true = record { state = g; keep = λ i f. f; dones = tt }
       by_record None e false = arrives_new state packet g h
@@ -256,14 +256,6 @@ module _ (H : TxnId → Phase → Type 0) where
           let parts = and_parts (same_id id waiter.id) (is_prelim waiter.body) t in
           subst (λ (that_id : TxnId). H that_id Phase.Prelim) (sym (same_id-true id waiter.id parts.0)) (by_body waiter.body parts.1 h.0)
       by_test (inr t) ih = ih t
-
-  Each_filter : (p : ShardPacket → Bool) (waiters : List ShardPacket) → Each (λ waiter. H waiter.id (phase_of waiter.body)) waiters → Each (λ waiter. H waiter.id (phase_of waiter.body)) (filter p waiters)
-  Each_filter p [] h = tt
-  Each_filter p (waiter ∷ waiters) h = by_test (p waiter) (Each_filter p waiters h.1)
-    where
-      by_test : (test : Bool) → Each (λ waiter. H waiter.id (phase_of waiter.body)) (filter p waiters) → Each (λ waiter. H waiter.id (phase_of waiter.body)) (cond test (waiter ∷ filter p waiters) (filter p waiters))
-      by_test true k = (h.0, k)
-      by_test false k = k
 
   concludes_first : (state : StoreState) (packet : ShardPacket) (outcome : Answer) (writes : List Write) → phase_of packet.body ≡ Phase.Conclude → Came state → H packet.id (phase_of packet.body) → Goes state (conclude_first state packet outcome writes)
   concludes_first state packet outcome writes ph g h = by_test (holds packet.id state.holding) (list_any (is_prelim_of packet.id) state.waiting) refl
@@ -308,17 +300,17 @@ module _ (H : TxnId → Phase → Type 0) where
           let ih = releases packet.at after_wait [] (no_longer_waiting packet.id state.waiting) (record {
             recorded = noted_from state.recorded packet.id Phase.Prelim Aborted g.recorded reading;
             waiting = tt;
-            values = noted_values state.recorded packet.id Phase.Prelim Aborted (HoldsOrDecided after_wait) (λ i v. kept i (g.values i v)) (λ r v. not_values Aborted refl (HoldsOrDecided after_wait packet.id) v);
+            values = noted_granted state.recorded packet.id Phase.Prelim Aborted (HoldsOrDecided after_wait) (λ i v. kept i (g.values i v)) (λ r v. not_granted Aborted refl (HoldsOrDecided after_wait packet.id) v);
             held = g.held;
             decided = decided_from state.decided packet.id Aborted g.decided (subst (H packet.id) ph h);
-          }) tt (Each_filter (λ w. not (is_prelim_of packet.id w)) state.waiting g.waiting) in
+          }) tt (Each-filter _ (λ w. not (is_prelim_of packet.id w)) state.waiting g.waiting) in
           record {
             state = ih.state;
             keep = λ i f. ih.keep i (kept i f);
             dones = (
               record { from = h; firm = λ r v. no_reading (HoldsOrDecided (release packet.at after_wait [] (no_longer_waiting packet.id state.waiting)).state packet.id) (sym ph ∙ r) },
               Each-append _ (aborted_late packet.at packet.id state.waiting) (release packet.at after_wait [] (no_longer_waiting packet.id state.waiting)).dones
-                  (each_aborted_late _ packet.at packet.id state.waiting (Each-weaker _ _ (λ w k test. record { from = k; firm = λ r v. not_values Aborted refl (HoldsOrDecided (release packet.at after_wait [] (no_longer_waiting packet.id state.waiting)).state w.id) v }) state.waiting g.waiting))
+                  (each_aborted_late _ packet.at packet.id state.waiting (Each-weaker _ _ (λ w k test. record { from = k; firm = λ r v. not_granted Aborted refl (HoldsOrDecided (release packet.at after_wait [] (no_longer_waiting packet.id state.waiting)).state w.id) v }) state.waiting g.waiting))
                   ih.dones,
             );
           }
@@ -381,11 +373,11 @@ pub ran : (packets : List ShardPacket) → Ran (λ i q. HasPacket i q packets) e
 ran packets = runs (λ i q. HasPacket i q packets) packets empty (empty_good (λ i q. HasPacket i q packets)) (all_have packets)
 
 said_done : (H : TxnId → Phase → Type 0) (other_state : StoreState) (id : TxnId) (phase : Phase) (answer : Answer) (dones : List Done) → Each (CameDone H other_state) dones → Said id phase answer dones
-    → H id phase × (phase ≡ Phase.Prelim → is_values (Some answer) ≡ true → HoldsOrDecided other_state id)
+    → H id phase × (phase ≡ Phase.Prelim → is_granted (Some answer) ≡ true → HoldsOrDecided other_state id)
 said_done H other_state id phase answer [] h k = absurd k
 said_done H other_state id phase answer (given ∷ dones) h (inl k) = (
   subst (λ (r : Phase). H id r) k.1 (subst (λ (other_id : TxnId). H other_id given.phase) k.0 h.0.from),
-  (λ r v. subst (HoldsOrDecided other_state) k.0 (h.0.firm (k.1 ∙ r) (ap (λ (other_answer : Answer). is_values (Some other_answer)) k.2 ∙ v))),
+  (λ r v. subst (HoldsOrDecided other_state) k.0 (h.0.firm (k.1 ∙ r) (ap (λ (other_answer : Answer). is_granted (Some other_answer)) k.2 ∙ v))),
 )
 said_done H other_state id phase answer (given ∷ dones) h (inr k) = said_done H other_state id phase answer dones h.1 k
 
@@ -393,6 +385,8 @@ said_done H other_state id phase answer (given ∷ dones) h (inr k) = said_done 
 pub said_from : (id : TxnId) (phase : Phase) (answer : Answer) (packets : List ShardPacket) → Said id phase answer (run_dones empty packets) → HasPacket id phase packets
 said_from id phase answer packets k = (said_done (λ i r. HasPacket i r packets) (run_state empty packets) id phase answer (run_dones empty packets) (ran packets).dones k).0
 
--- A PRELIMINARY THAT GAVE VALUES holds until its id is decided
-pub said_holds : (id : TxnId) (read : List (Option ℕ)) (packets : List ShardPacket) → Said id Phase.Prelim (Answer.Values read) (run_dones empty packets) → HoldsOrDecided (run_state empty packets) id
-said_holds id read packets k = (said_done (λ i r. HasPacket i r packets) (run_state empty packets) id Phase.Prelim (Answer.Values read) (run_dones empty packets) (ran packets).dones k).1 refl refl
+-- A PRELIMINARY THAT WAS GRANTED holds until its id is decided
+pub said_holds : (id : TxnId) (answer : Answer) (packets : List ShardPacket) → is_granted (Some answer) ≡ true → Said id Phase.Prelim answer (run_dones empty packets)
+    → HoldsOrDecided (run_state empty packets) id
+said_holds id answer packets granted k =
+    (said_done (λ i r. HasPacket i r packets) (run_state empty packets) id Phase.Prelim answer (run_dones empty packets) (ran packets).dones k).1 refl granted
