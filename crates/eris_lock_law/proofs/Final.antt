@@ -1,19 +1,20 @@
 use Rattle.eris_base.specs.declared.ids.Phase.{Phase}
 use Rattle.eris_base.specs.declared.ids.TxnId.{TxnId}
 use Rattle.eris_lock_law.proofs.Act.{lawful_of}
-use Rattle.eris_lock_law.proofs.Each.{Each-left, Each-with}
+use Rattle.eris_lock_law.proofs.Each.{Each-left, Each-weaker, Each-with}
 use Rattle.eris_lock_law.proofs.Early.{EarlyDone}
 use Rattle.eris_lock_law.proofs.Ended.{early_answers}
 use Rattle.eris_lock_law.proofs.Fit.{Good, holder_of, holding_in, is_holding, is_waiting, reached_at, waiting_in}
+use Rattle.eris_lock_law.proofs.InTime.{in_time, plain_granted}
 use Rattle.eris_lock_law.proofs.Log.{AllLawful, Complete, Entry, Holds, Lawful, Status, Void, Waits, current, effect, final, is_complete, is_void}
 use Rattle.eris_lock_law.proofs.Release.{GoodDone}
-use Rattle.eris_lock_law.proofs.Runs.{law_from, plain}
+use Rattle.eris_lock_law.proofs.Runs.{dones_of_prefix, law_from, plain}
 use Rattle.eris_lock_law.proofs.Shape.{kind_of, kinds_of, wf_of}
 use Rattle.eris_lock_law.proofs.Stuck.{none_waits, run_stuck}
 use Rattle.eris_locks.specs.Each.{Each}
-use Rattle.eris_locks.specs.Law.{EndedEarly, IsRight, IsRightDone, plain_end}
-use Rattle.eris_locks.specs.LockTable.{run_dones, run_state, step}
-use Rattle.eris_locks.specs.States.{StoreState, empty}
+use Rattle.eris_locks.specs.Law.{EndedEarly, IsRight, IsRightDone, Said, plain_end}
+use Rattle.eris_locks.specs.LockTable.{run_dones, run_state}
+use Rattle.eris_locks.specs.States.{empty}
 use Rattle.eris_locks.specs.WellFormed.{WellFormed}
 use Rattle.eris_locks.specs.declared.done.Done.{Done}
 use Rattle.eris_locks.specs.declared.held.Held.{Held}
@@ -22,7 +23,7 @@ use Rattle.eris_txn.specs.Keys.{Values, no_values}
 use Rattle.eris_txn.specs.declared.answer.Answer.{Answer}
 use Rattle.eris_txn.specs.declared.answer.Answer.TheVariants.{Aborted}
 use Rattle.eris_txn.specs.declared.key.Key.{Key}
-use Rattle.std.proofs.Common.{List, None, Option, [], ap, append_assoc, cond, false, inl, inr, refl, subst, sym, true, ℕ, ◌++◌, ◌∙◌, ◌∷◌, ◌≡◌}
+use Rattle.std.proofs.Common.{List, None, Option, [], ap, cond, false, inl, inr, refl, subst, sym, true, ℕ, ◌++◌, ◌∙◌, ◌∷◌, ◌≡◌}
 use Rattle.std.proofs.lemmas.Bool.{both_ways}
 use Rattle.std.specs.List.{list_any}
 use mathlib.Core.Path.{fun_ext}
@@ -30,17 +31,29 @@ use mathlib.Core.Path.{fun_ext}
 pub answers_good : (packets : List ShardPacket) → WellFormed packets → Each (GoodDone (plain packets)) (run_dones empty packets)
 answers_good packets wf = (law_from packets (kind_of packets) (wf_of packets wf)).good
 
-done_right : (packets : List ShardPacket) (phase : Phase) (id : TxnId) (answer : Answer) → Good (plain packets) phase id answer → (phase ≡ Phase.Prelim → answer ≡ Aborted → EndedEarly packets id) → IsRight packets phase id answer
-done_right packets Phase.Whole id answer h e = h
-done_right packets Phase.Prelim id answer (inl h) e = inl h
-done_right packets Phase.Prelim id answer (inr h) e = inr (record { is = h.0; outcome = h.1; ended = e refl h.0 })
-done_right packets Phase.Conclude id answer h e = h
+done_right : (packets : List ShardPacket) (phase : Phase) (id : TxnId) (answer : Answer) → Good (plain packets) phase id answer → (phase ≡ Phase.Prelim → answer ≡ Aborted → EndedEarly packets id)
+    → Said id phase answer (run_dones empty packets) → IsRight packets phase id answer
+done_right packets Phase.Whole id answer h e said = h
+done_right packets Phase.Prelim id answer (inl h) e said = inl (record { plain = h; in_time = in_time packets id answer (plain_granted packets id answer h) said })
+done_right packets Phase.Prelim id answer (inr h) e said = inr (record { is = h.0; outcome = h.1; ended = e refl h.0 })
+done_right packets Phase.Conclude id answer h e said = h
+
+all_said : (dones : List Done) → Each (λ given. Said given.id given.phase given.answer dones) dones
+all_said [] = tt
+all_said (given ∷ dones) = (
+  inl (refl, refl, refl),
+  Each-weaker (λ other. Said other.id other.phase other.answer dones) (λ other. Said other.id other.phase other.answer (given ∷ dones)) (λ other h. inr h) dones (all_said dones),
+)
 
 -- EACH ANSWER IS RIGHT
 pub answers_right : (packets : List ShardPacket) → WellFormed packets → Each (IsRightDone packets) (run_dones empty packets)
 answers_right packets wf =
-    Each-with (GoodDone (plain packets)) (EarlyDone (EndedEarly packets) (kind_of packets)) (IsRightDone packets) (λ d h e. done_right packets d.phase d.id d.answer h e) (run_dones empty packets)
-    (answers_good packets wf) (early_answers packets (kind_of packets) (kinds_of packets wf))
+    Each-with (λ given. Good (plain packets) given.phase given.id given.answer × EarlyDone (EndedEarly packets) (kind_of packets) given)
+    (λ given. Said given.id given.phase given.answer (run_dones empty packets)) (IsRightDone packets)
+    (λ given h said. done_right packets given.phase given.id given.answer h.0 h.1 said) (run_dones empty packets)
+    (Each-with (GoodDone (plain packets)) (EarlyDone (EndedEarly packets) (kind_of packets)) (λ given. Good (plain packets) given.phase given.id given.answer × EarlyDone (EndedEarly packets) (kind_of packets) given)
+    (λ given h e. (h, e)) (run_dones empty packets) (answers_good packets wf) (early_answers packets (kind_of packets) (kinds_of packets wf)))
+    (all_said (run_dones empty packets))
 
 one_closed : (entry : Entry) (status : Status) (key : Key) (value : Option ℕ) (holding : List Held) (waiters : List ShardPacket) → Lawful entry → entry.status ≡ status
     → list_any (λ h. true) (cond (is_holding status) (holder_of entry ∷ holding) holding) ≡ false → cond (is_waiting status) (entry.packet ∷ waiters) waiters ≡ []
@@ -72,11 +85,6 @@ values_right packets wf h =
 
 pub waiting_none : (packets : List ShardPacket) → (run_state empty packets).holding ≡ [] → (run_state empty packets).waiting ≡ []
 waiting_none packets h = none_waits (run_state empty packets) (run_stuck packets empty tt) h
-
--- what a store answered on a beginning of the list is right by the whole list
-pub dones_of_prefix : (packets rest : List ShardPacket) (state : StoreState) → run_dones state (packets ++ rest) ≡ run_dones state packets ++ run_dones (run_state state packets) rest
-dones_of_prefix [] rest state = refl
-dones_of_prefix (packet ∷ packets) rest state = ap (λ t. (step state packet).dones ++ t) (dones_of_prefix packets rest (step state packet).state) ∙ sym (append_assoc (step state packet).dones (run_dones (step state packet).state packets) (run_dones (run_state state (packet ∷ packets)) rest))
 
 -- AND SO IS WHAT A STORE ANSWERED that ran only a beginning of the list
 pub beginning_right : (packets rest : List ShardPacket) → WellFormed (packets ++ rest) → Each (IsRightDone (packets ++ rest)) (run_dones empty packets)

@@ -16,7 +16,8 @@ mod Table
 mod Early
 mod Apart
 mod Ended
-mod Final
 mod Lost
 mod Once
+mod InTime
+mod Final
 mod Fits

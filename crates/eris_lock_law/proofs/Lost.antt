@@ -2,9 +2,9 @@ use Rattle.eris_base.specs.declared.ids.Phase.{Phase}
 use Rattle.eris_base.specs.declared.ids.Place.{Place}
 use Rattle.eris_base.specs.declared.ids.TxnId.{TxnId}
 use Rattle.eris_lock_law.proofs.Each.{Each-append}
-use Rattle.eris_lock_law.proofs.Final.{dones_of_prefix}
 use Rattle.eris_lock_law.proofs.Ids.{same_id-from, same_id-true}
 use Rattle.eris_lock_law.proofs.Prelims.{each_aborted_late}
+use Rattle.eris_lock_law.proofs.Runs.{dones_of_prefix}
 use Rattle.eris_lock_law.proofs.Table.{is_granted, ran, said_holds, same_phases}
 use Rattle.eris_locks.specs.Each.{Each}
 use Rattle.eris_locks.specs.Law.{HoldsOrDecided, Said}

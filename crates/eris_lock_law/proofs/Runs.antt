@@ -4,7 +4,7 @@ use Rattle.eris_base.specs.declared.ids.TxnId.{TxnId}
 use Rattle.eris_lock_law.proofs.Arrive.{Next, arrive_right}
 use Rattle.eris_lock_law.proofs.Conclude.{conclude_right}
 use Rattle.eris_lock_law.proofs.Each.{Each-append}
-use Rattle.eris_lock_law.proofs.Fit.{Fit, Plain, waiting_in}
+use Rattle.eris_lock_law.proofs.Fit.{Fit, Plain, reached, waiting_in}
 use Rattle.eris_lock_law.proofs.Keys.{on_key_kept, put_on_kept}
 use Rattle.eris_lock_law.proofs.Log.{Entry}
 use Rattle.eris_lock_law.proofs.Release.{GoodDone}
@@ -20,7 +20,7 @@ use Rattle.eris_txn.specs.declared.answer.Answer.{Answer}
 use Rattle.eris_txn.specs.declared.answer.Answer.TheVariants.{Aborted, Committed}
 use Rattle.eris_txn.specs.declared.body.Body.{Body}
 use Rattle.eris_txn.specs.declared.body.Body.TheVariants.{Abort, Commit, Independent, Prelim}
-use Rattle.std.proofs.Common.{Bool, List, None, Some, [], false, refl, sym, true, ◌∷◌, ◌≡◌}
+use Rattle.std.proofs.Common.{Bool, List, None, Some, [], ap, append_assoc, false, refl, sym, true, ◌++◌, ◌∙◌, ◌∷◌, ◌≡◌}
 use Rattle.std.proofs.lemmas.Bool.{both_ways}
 
 abbrev pub WfHere : (TxnId → Bool) → StoreState → TxnId → List ShardPacket → Body → Type 0
@@ -90,3 +90,8 @@ law_from packets kind wf = run_right packets (plain packets) kind no_values [] [
   where
     no : (answer : Answer) → None ≡ Some answer → ⊥
     no answer h = cc
+
+-- the answers of a list are those of a beginning and then of its rest
+pub dones_of_prefix : (packets rest : List ShardPacket) (state : StoreState) → run_dones state (packets ++ rest) ≡ run_dones state packets ++ run_dones (run_state state packets) rest
+dones_of_prefix [] rest state = refl
+dones_of_prefix (packet ∷ packets) rest state = ap (λ t. (step state packet).dones ++ t) (dones_of_prefix packets rest (step state packet).state) ∙ sym (append_assoc (step state packet).dones (run_dones (step state packet).state packets) (run_dones (run_state state (packet ∷ packets)) rest))

@@ -48,16 +48,22 @@ pub record EndedEarly (packets : List ShardPacket) (id : TxnId) : Type 0 where
   pub first : outcome_in id before ≡ None
   pub unread : (list_any (is_prelim_of id) (run_state empty before).waiting ≡ true) ⊎ (list_any (is_prelim_of id) before ≡ false)
 
+-- a preliminary's values, which it read before its id was decided
+pub record IsReadInTime (packets : List ShardPacket) (id : TxnId) (answer : Answer) : Type 0 where
+  pub plain : IsPlain packets id answer
+  pub in_time : EndedEarly packets id → ⊥
+
 -- why a preliminary is answered Aborted
 pub record IsAbortedEarly (packets : List ShardPacket) (id : TxnId) (answer : Answer) : Type 0 where
   pub is : answer ≡ Aborted
   pub outcome : outcome_in id packets ≡ Some Aborted
   pub ended : EndedEarly packets id
 
--- WHAT AN ANSWER IS, by its phase
+-- WHAT AN ANSWER IS, by its phase: a Whole's is the plain run's; a Prelim's is the plain run's, or Aborted
+-- exactly where it was ended early; a conclusion's is what the id's first conclusory packet says
 abbrev pub IsRight : List ShardPacket → Phase → TxnId → Answer → Type 0
 IsRight packets Phase.Whole id answer = IsPlain packets id answer
-IsRight packets Phase.Prelim id answer = IsPlain packets id answer ⊎ IsAbortedEarly packets id answer
+IsRight packets Phase.Prelim id answer = IsReadInTime packets id answer ⊎ IsAbortedEarly packets id answer
 IsRight packets Phase.Conclude id answer = outcome_in id packets ≡ Some answer
 
 abbrev pub IsRightDone : List ShardPacket → Done → Type 0
