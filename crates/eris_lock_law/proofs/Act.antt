@@ -3,7 +3,7 @@ use Rattle.eris_base.specs.declared.ids.Phase.{Phase}
 use Rattle.eris_base.specs.declared.ids.Place.{Place}
 use Rattle.eris_base.specs.declared.ids.TxnId.{TxnId}
 use Rattle.eris_lock_law.proofs.Each.{Each-changed, Each-left, Each-right, Each-weaker}
-use Rattle.eris_lock_law.proofs.Fit.{EntryFit, Fit, Good, Point, SameSet, StandsIn-append_left, distinct_changed, entry_of, has_id_changed, holder_of, holding_in-append, holding_in, known_here, known_noted, logged_noted, reached, reached_changed, read_answer, ruled_noted, sound_noted, logged_answers_changed, logged_answers_has, unblocked, waiting_in}
+use Rattle.eris_lock_law.proofs.Fit.{EntryFit, Fit, Good, Point, SameSet, StandsIn-append_left, distinct_changed, entry_of, has_id_changed, holder_of, holding_in, holding_in-append, known_here, known_noted, logged_answers_changed, logged_answers_has, logged_noted, reached, reached_changed, read_answer, ruled_noted, sound_noted, unblocked, waiting_in}
 use Rattle.eris_lock_law.proofs.Keys.{after_all_at, modes_conflict, on_key}
 use Rattle.eris_lock_law.proofs.Log.{AllLawful, Complete, Entry, Holds, InOrder, LaterApart, Lawful, OpenApart, Status, Void, Waits, current, current-append, left_in_place, with_status}
 use Rattle.eris_lock_law.proofs.Order.{order_changed, order_later}
@@ -37,7 +37,7 @@ fit_noted kind rest recorded decided id phase answer entry f = record {
   kind_is = f.kind_is;
   known = λ w. known_noted recorded id phase answer entry.packet.id (phase_of entry.packet.body) (f.known w);
   undecided = f.undecided;
-  fated = f.fated;
+  writes_to_come = f.writes_to_come;
   holder = f.holder;
 }
 
@@ -135,7 +135,7 @@ act point state earlier at asker id (Independent ops) own_writes following fit f
             kind_is = mine.kind_is;
             known = λ w. known_here state.recorded id Phase.Whole (answer_of (Independent ops) state.values);
             undecided = λ o. absurd (cc);
-            fated = λ o. absurd (cc);
+            writes_to_come = λ o. absurd (cc);
             holder = λ o. absurd (cc);
           }),
       good,
@@ -158,7 +158,7 @@ act point state earlier at asker id (Prelim ls) own_writes following fit free =
             kind_is = mine.kind_is;
             known = λ w. known_here state.recorded id Phase.Prelim (answer_of (Prelim ls) state.values);
             undecided = λ o. mine.undecided refl;
-            fated = λ o. mine.fated refl;
+            writes_to_come = λ o. mine.writes_to_come refl;
             holder = λ o. refl;
           }),
       inl good,

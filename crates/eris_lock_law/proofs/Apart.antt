@@ -7,7 +7,7 @@ use Rattle.eris_lock_law.proofs.Early.{held_executed}
 use Rattle.eris_lock_law.proofs.Fit.{known_noted}
 use Rattle.eris_lock_law.proofs.Ids.{same_id-true, same_id-turned}
 use Rattle.eris_lock_law.proofs.Prelims.{prelim_phase}
-use Rattle.eris_lock_law.proofs.Table.{fewer}
+use Rattle.eris_lock_law.proofs.SaidFrom.{fewer}
 use Rattle.eris_locks.specs.Each.{Each}
 use Rattle.eris_locks.specs.LockTable.{Stepped, aborted_late, all_also, also, answer_of, arrive, arrive_new, conclude, done, end_holding, end_waiting, execute, nothing_done, only, release, run_state, step, step_by}
 use Rattle.eris_locks.specs.Locks.{locks_of}

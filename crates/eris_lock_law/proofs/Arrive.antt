@@ -4,7 +4,7 @@ use Rattle.eris_base.specs.declared.ids.Place.{Place}
 use Rattle.eris_base.specs.declared.ids.TxnId.{TxnId}
 use Rattle.eris_lock_law.proofs.Act.{act, acted, any_holding_in, fit_noted}
 use Rattle.eris_lock_law.proofs.Each.{Each-append, Each-weaker}
-use Rattle.eris_lock_law.proofs.Fit.{Distinct, EntryFit, Fit, Good, Plain, Point, entry_of, has_id, holding_in, is_holding, is_known, is_waiting, known_here, logged_noted, reached, ruled_noted, served_at, sound_noted, logged_answers, waiting_in-append, waiting_in}
+use Rattle.eris_lock_law.proofs.Fit.{Distinct, EntryFit, Fit, Good, Plain, Point, entry_of, has_id, holding_in, is_holding, is_known, is_waiting, known_here, logged_answers, logged_noted, reached, ruled_noted, served_at, sound_noted, waiting_in, waiting_in-append}
 use Rattle.eris_lock_law.proofs.Ids.{same_id-true, same_id-turned}
 use Rattle.eris_lock_law.proofs.Log.{Complete, Entry, Holds, Status, Void, Waits, current-append, effect, has_acted, is_complete, is_open, left_at}
 use Rattle.eris_lock_law.proofs.Order.{order_added}
@@ -44,10 +44,10 @@ or_none : (b : Bool) → (b || false) ≡ b
 or_none true = refl
 or_none false = refl
 
-or_turn : (a b : Bool) → (a || b) ≡ (b || (a || false))
-or_turn true true = refl
-or_turn true false = refl
-or_turn false b = sym (or_none b)
+or_added : (a b : Bool) → (a || b) ≡ (b || (a || false))
+or_added true true = refl
+or_added true false = refl
+or_added false b = sym (or_none b)
 
 distinct_added : (entries : List Entry) (entry : Entry) → Distinct entries → has_id entry.packet.id entries ≡ false → Distinct (entries ++ entry ∷ [])
 distinct_added [] entry h n = (tt, tt)
@@ -106,7 +106,7 @@ module _ (all : Plain) (kind : TxnId → Bool) (packets : List ShardPacket) (val
         ∙ (sym (append_assoc (logged_answers entries no_values) (served_at it (reached entries no_values) ∷ []) later)
         ∙ ap (λ t. t ++ later) (sym (logged_answers_added entries it no_values)))));
     reaches = reached_added entries it no_values ∙ ap (left_after body writes) fit.reaches;
-    seen_is = λ other_id. ap (λ t. same_id other_id id || t) (fit.seen_is other_id) ∙ (or_turn (same_id other_id id) (has_id other_id entries) ∙ sym (has_id_added other_id entries it));
+    seen_is = λ other_id. ap (λ t. same_id other_id id || t) (fit.seen_is other_id) ∙ (or_added (same_id other_id id) (has_id other_id entries) ∙ sym (has_id_added other_id entries it));
     decided_is = fit.decided_is;
     ends = fit.ends ∙ last;
     told = fit.told;
@@ -114,11 +114,11 @@ module _ (all : Plain) (kind : TxnId → Bool) (packets : List ShardPacket) (val
     ruled = ruled;
   }
 
-pub fate_passes : (other_id : TxnId) (at : Place) (asker : ClientId) (id : TxnId) (body : Body) (packets : List ShardPacket) → is_conclusory body ≡ false → writes_in other_id (record { at = at; asker = asker; id = id; body = body } ∷ packets) ≡ writes_in other_id packets
-fate_passes other_id at asker id (Independent ops) packets h = refl
-fate_passes other_id at asker id (Prelim ls) packets h = refl
-fate_passes other_id at asker id (Commit keys writes) packets h = cc
-fate_passes other_id at asker id (Abort keys) packets h = cc
+pub writes_pass : (other_id : TxnId) (at : Place) (asker : ClientId) (id : TxnId) (body : Body) (packets : List ShardPacket) → is_conclusory body ≡ false → writes_in other_id (record { at = at; asker = asker; id = id; body = body } ∷ packets) ≡ writes_in other_id packets
+writes_pass other_id at asker id (Independent ops) packets h = refl
+writes_pass other_id at asker id (Prelim ls) packets h = refl
+writes_pass other_id at asker id (Commit keys writes) packets h = cc
+writes_pass other_id at asker id (Abort keys) packets h = cc
 
 pub outcome_passes : (other_id : TxnId) (at : Place) (asker : ClientId) (id : TxnId) (body : Body) (packets : List ShardPacket) → is_conclusory body ≡ false → outcome_in other_id (record { at = at; asker = asker; id = id; body = body } ∷ packets) ≡ outcome_in other_id packets
 outcome_passes other_id at asker id (Independent ops) packets h = refl
@@ -145,7 +145,7 @@ fit_rest kind rest rest' recorded decided decided' entry h f = record {
   kind_is = f.kind_is;
   known = f.known;
   undecided = λ o p. (h o p (f.undecided o p)).0;
-  fated = λ o p. f.fated o p ∙ (h o p (f.undecided o p)).1;
+  writes_to_come = λ o p. f.writes_to_come o p ∙ (h o p (f.undecided o p)).1;
   holder = f.holder;
 }
 
@@ -209,28 +209,28 @@ module _ (all : Plain) (kind : TxnId → Bool) (packets : List ShardPacket) (val
     (kept : (key : Key) (value : Option ℕ) → alters key (locks_of body) ≡ false → effect (entry_of at asker id body (writes_in id packets) Waits) key value ≡ value)
     (fit : Fit (point_before all kind packets values seen concluded at asker id body (writes_in id packets) Waits state entries) state entries)
     (waiting : state.waiting ≡ waiting_in entries) where
-  abbrev it' : ShardPacket
-  it' = record { at = at; asker = asker; id = id; body = body }
+  abbrev newcomer : ShardPacket
+  newcomer = record { at = at; asker = asker; id = id; body = body }
 
-  serial_skips : is_among id seen ≡ true → plain_run values seen concluded (it' ∷ packets) ≡ plain_run values seen concluded packets
-  serial_skips h = rw (plain, h, plain_run) refl
+  run_skips : is_among id seen ≡ true → plain_run values seen concluded (newcomer ∷ packets) ≡ plain_run values seen concluded packets
+  run_skips h = rw (plain, h, plain_run) refl
 
   abbrev granted : List Write
   granted = cond (is_among id concluded) [] (writes_in id packets)
 
-  serial_takes : is_among id seen ≡ false → plain_run values seen concluded (it' ∷ packets) ≡ record { id = id; answer = answer_of body values } ∷ plain_run (left_after body granted values) (id ∷ seen) concluded packets
-  serial_takes h = rw (plain, h, plain_run) refl
+  run_takes : is_among id seen ≡ false → plain_run values seen concluded (newcomer ∷ packets) ≡ record { id = id; answer = answer_of body values } ∷ plain_run (left_after body granted values) (id ∷ seen) concluded packets
+  run_takes h = rw (plain, h, plain_run) refl
 
-  values_take : is_among id seen ≡ false → plain_values values seen concluded (it' ∷ packets) ≡ plain_values (left_after body granted values) (id ∷ seen) concluded packets
+  values_take : is_among id seen ≡ false → plain_values values seen concluded (newcomer ∷ packets) ≡ plain_values (left_after body granted values) (id ∷ seen) concluded packets
   values_take h = rw (plain, h, plain_values) refl
 
-  values_skip : is_among id seen ≡ true → plain_values values seen concluded (it' ∷ packets) ≡ plain_values values seen concluded packets
+  values_skip : is_among id seen ≡ true → plain_values values seen concluded (newcomer ∷ packets) ≡ plain_values values seen concluded packets
   values_skip h = rw (plain, h, plain_values) refl
 
   each_on : Each (EntryFit kind packets state.recorded state.decided) entries
-  each_on = Each-weaker _ _ (λ e f. fit_rest kind (it' ∷ packets) packets state.recorded state.decided state.decided e (λ o p n. (n, fate_passes e.packet.id at asker id body packets plain)) f) entries fit.each
+  each_on = Each-weaker _ _ (λ e f. fit_rest kind (newcomer ∷ packets) packets state.recorded state.decided state.decided e (λ o p n. (n, writes_pass e.packet.id at asker id body packets plain)) f) entries fit.each
 
-  -- one that comes again changes no_values
+  -- one that comes again changes nothing
   again : has_id id entries ≡ true → Fit (record { all = all; kind = kind; rest = packets; reached = values; seen = seen; decided = concluded }) state entries
   again h = record {
     values = fit.values;
@@ -240,7 +240,7 @@ module _ (all : Plain) (kind : TxnId → Bool) (packets : List ShardPacket) (val
     holding = fit.holding;
     sound = fit.sound;
     logged = fit.logged;
-    linked = fit.linked ∙ ap (λ t. logged_answers entries no_values ++ t) (serial_skips (fit.seen_is id ∙ h));
+    linked = fit.linked ∙ ap (λ t. logged_answers entries no_values ++ t) (run_skips (fit.seen_is id ∙ h));
     reaches = fit.reaches;
     seen_is = fit.seen_is;
     decided_is = fit.decided_is;
@@ -268,13 +268,13 @@ module _ (all : Plain) (kind : TxnId → Bool) (packets : List ShardPacket) (val
         kind_is = kind_is;
         known = λ w. absurd (cc);
         undecided = λ o p. none_from (state.decided id) (and_right_false p free);
-        fated = λ o p. cond-false _ _ _ (fit.decided_is id ∙ and_right_false p free);
+        writes_to_come = λ o p. cond-false _ _ _ (fit.decided_is id ∙ and_right_false p free);
         holder = λ h. absurd (cc);
       })
       fit.sound
       (λ i q k. has_id_added i entries (entry_of at asker id body granted Waits) ∙ or_left _ _ (fit.logged i q k))
       fit.ruled (λ i. outcome_passes i at asker id body packets plain)
-      (serial_takes (fit.seen_is id ∙ new)) (values_take (fit.seen_is id ∙ new))
+      (run_takes (fit.seen_is id ∙ new)) (values_take (fit.seen_is id ∙ new))
 
   -- a new preliminary whose id is decided was decided Aborted
   aborted : state.recorded id (phase_of body) ≡ None → is_prelim body ≡ true → (found : Option Answer) → state.decided id ≡ found → is_decided found ≡ true → all.outcome id ≡ Some Aborted
@@ -300,24 +300,24 @@ module _ (all : Plain) (kind : TxnId → Bool) (packets : List ShardPacket) (val
         kind_is = kind_is;
         known = λ w. known_here state.recorded id (phase_of body) Aborted;
         undecided = λ o. absurd (cc);
-        fated = λ o. absurd (cc);
+        writes_to_come = λ o. absurd (cc);
         holder = λ h. absurd (cc);
       })
       (sound_noted all state.recorded id (phase_of body) Aborted fit.sound (good_aborted r parts.0 parts.1))
       (logged_noted state.recorded (phase_of body) Aborted entries (entry_of at asker id body granted Void) []
       (λ i q k. has_id_added i entries (entry_of at asker id body granted Void) ∙ or_left _ _ (fit.logged i q k)))
       (ruled_noted state.recorded state.decided id (phase_of body) Aborted fit.ruled) (λ i. outcome_passes i at asker id body packets plain)
-      (serial_takes (fit.seen_is id ∙ new)) (values_take (fit.seen_is id ∙ new))
+      (run_takes (fit.seen_is id ∙ new)) (values_take (fit.seen_is id ∙ new))
 
-  by_blocked : has_id id entries ≡ false → (is_prelim body && is_decided (state.decided id)) ≡ false → (test : Bool) → blocked state.holding state.waiting (locks_of body) ≡ test → Next all kind packets (arrive_new state it')
+  by_blocked : has_id id entries ≡ false → (is_prelim body && is_decided (state.decided id)) ≡ false → (test : Bool) → blocked state.holding state.waiting (locks_of body) ≡ test → Next all kind packets (arrive_new state newcomer)
   by_blocked new free true k = rw (free, k, arrive_new) (record {
     reached_now = left_after body granted values;
     seen_now = id ∷ seen;
     decided_now = concluded;
     right = record {
       log = entries ++ entry_of at asker id body granted Waits ∷ [];
-      fit = rewait (point_after all kind packets values seen concluded at asker id body granted Waits state entries) state (state.waiting ++ it' ∷ []) (entries ++ entry_of at asker id body granted Waits ∷ []) (queued new free);
-      waiting = ap (λ test. test ++ it' ∷ []) waiting ∙ sym (waiting_in-append entries (entry_of at asker id body granted Waits ∷ []));
+      fit = rewait (point_after all kind packets values seen concluded at asker id body granted Waits state entries) state (state.waiting ++ newcomer ∷ []) (entries ++ entry_of at asker id body granted Waits ∷ []) (queued new free);
+      waiting = ap (λ test. test ++ newcomer ∷ []) waiting ∙ sym (waiting_in-append entries (entry_of at asker id body granted Waits ∷ []));
       good = tt;
     };
   })
@@ -335,7 +335,7 @@ module _ (all : Plain) (kind : TxnId → Bool) (packets : List ShardPacket) (val
         };
       })
 
-  by_decided : state.recorded id (phase_of body) ≡ None → has_id id entries ≡ false → (test : Bool) → (is_prelim body && is_decided (state.decided id)) ≡ test → Next all kind packets (arrive_new state it')
+  by_decided : state.recorded id (phase_of body) ≡ None → has_id id entries ≡ false → (test : Bool) → (is_prelim body && is_decided (state.decided id)) ≡ test → Next all kind packets (arrive_new state newcomer)
   by_decided r new true k = rw (k, arrive_new) (record {
     reached_now = left_after body granted values;
     seen_now = id ∷ seen;
@@ -349,7 +349,7 @@ module _ (all : Plain) (kind : TxnId → Bool) (packets : List ShardPacket) (val
   })
   by_decided r new false k = by_blocked new k (blocked state.holding state.waiting (locks_of body)) refl
 
-  by_waits : (test : Bool) → waits id state.waiting ≡ test → state.recorded id (phase_of body) ≡ None → Next all kind packets (arrive state it')
+  by_waits : (test : Bool) → waits id state.waiting ≡ test → state.recorded id (phase_of body) ≡ None → Next all kind packets (arrive state newcomer)
   by_waits true k h = rw (h, k, arrive) (record {
     reached_now = values;
     seen_now = seen;
@@ -361,9 +361,9 @@ module _ (all : Plain) (kind : TxnId → Bool) (packets : List ShardPacket) (val
       good = tt;
     };
   })
-  by_waits false k h = rw (h, k, arrive) (by_decided h (is_new kind (it' ∷ packets) state.recorded state.decided id body entries plain kind_is h fit.each (ap (waits id) (sym waiting) ∙ k)) (is_prelim body && is_decided (state.decided id)) refl)
+  by_waits false k h = rw (h, k, arrive) (by_decided h (is_new kind (newcomer ∷ packets) state.recorded state.decided id body entries plain kind_is h fit.each (ap (waits id) (sym waiting) ∙ k)) (is_prelim body && is_decided (state.decided id)) refl)
 
-  by_record : (found : Option Answer) → state.recorded id (phase_of body) ≡ found → Next all kind packets (arrive state it')
+  by_record : (found : Option Answer) → state.recorded id (phase_of body) ≡ found → Next all kind packets (arrive state newcomer)
   by_record (Some a) h = rw (h, arrive) (record {
     reached_now = values;
     seen_now = seen;
@@ -378,5 +378,5 @@ module _ (all : Plain) (kind : TxnId → Bool) (packets : List ShardPacket) (val
   by_record None h = by_waits (waits id state.waiting) refl h
 
   -- A TRANSACTION COMES
-  pub arrive_right : Next all kind packets (arrive state it')
+  pub arrive_right : Next all kind packets (arrive state newcomer)
   arrive_right = by_record (state.recorded id (phase_of body)) refl

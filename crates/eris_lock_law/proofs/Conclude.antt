@@ -5,7 +5,7 @@ use Rattle.eris_base.specs.declared.ids.TxnId.{TxnId}
 use Rattle.eris_lock_law.proofs.Act.{any_holding_in, fit_noted, lawful_of}
 use Rattle.eris_lock_law.proofs.Arrive.{Next, fit_rest, phase_is}
 use Rattle.eris_lock_law.proofs.Each.{Each-append, Each-left, Each-right, Each-weaker, Each-with}
-use Rattle.eris_lock_law.proofs.Fit.{Distinct, EntryFit, Fit, Good, Plain, Point, distinct_changed, entry_of, has_id_changed, holder_of, holding_in, is_holding, is_known, is_waiting, known_here, logged_noted, reached_changed, ruled_noted, sound_noted, logged_answers, logged_answers_changed, waiting_in-append, waiting_in}
+use Rattle.eris_lock_law.proofs.Fit.{Distinct, EntryFit, Fit, Good, Plain, Point, distinct_changed, entry_of, has_id_changed, holder_of, holding_in, is_holding, is_known, is_waiting, known_here, logged_answers, logged_answers_changed, logged_noted, reached, reached_changed, ruled_noted, sound_noted, waiting_in, waiting_in-append}
 use Rattle.eris_lock_law.proofs.Ids.{same_id-from, same_id-true, same_id-turned}
 use Rattle.eris_lock_law.proofs.Keys.{modes_conflict, put_on, written_at}
 use Rattle.eris_lock_law.proofs.Log.{Complete, Entry, Holds, Lawful, Status, Void, Waits, current, current-append, is_open, left_at, left_in_place, with_status}
@@ -187,7 +187,7 @@ late_good all id waiter out t =
 
 module _ (all : Plain) (kind : TxnId → Bool) (packets : List ShardPacket) (values : Values) (seen concluded : List TxnId) (at : Place) (asker : ClientId) (id : TxnId) (body : Body) (outcome : Answer) (writes : List Write)
     (shut : is_conclusory body ≡ true)
-    (fate_is : (other_id : TxnId) → writes_in other_id (record { at = at; asker = asker; id = id; body = body } ∷ packets) ≡ cond (same_id other_id id) writes (writes_in other_id packets))
+    (writes_are : (other_id : TxnId) → writes_in other_id (record { at = at; asker = asker; id = id; body = body } ∷ packets) ≡ cond (same_id other_id id) writes (writes_in other_id packets))
     (outcome_is : (other_id : TxnId) → outcome_in other_id (record { at = at; asker = asker; id = id; body = body } ∷ packets) ≡ cond (same_id other_id id) (Some outcome) (outcome_in other_id packets))
     (phase_here : phase_of body ≡ Phase.Conclude) where
   abbrev it : ShardPacket
@@ -199,14 +199,14 @@ module _ (all : Plain) (kind : TxnId → Bool) (packets : List ShardPacket) (val
   abbrev then : Point
   then = record { all = all; kind = kind; rest = packets; reached = values; seen = seen; decided = id ∷ concluded }
 
-  serial_on : plain_run values seen concluded (it ∷ packets) ≡ plain_run values seen (id ∷ concluded) packets
-  serial_on = rw (shut, plain_run) refl
+  run_on : plain_run values seen concluded (it ∷ packets) ≡ plain_run values seen (id ∷ concluded) packets
+  run_on = rw (shut, plain_run) refl
 
   values_on : plain_values values seen concluded (it ∷ packets) ≡ plain_values values seen (id ∷ concluded) packets
   values_on = rw (shut, plain_values) refl
 
-  fate_other : (other_id : TxnId) → same_id id other_id ≡ false → writes_in other_id (it ∷ packets) ≡ writes_in other_id packets
-  fate_other other_id h = fate_is other_id ∙ cond-false _ _ _ (same_id-turned other_id id ∙ h)
+  writes_other : (other_id : TxnId) → same_id id other_id ≡ false → writes_in other_id (it ∷ packets) ≡ writes_in other_id packets
+  writes_other other_id h = writes_are other_id ∙ cond-false _ _ _ (same_id-turned other_id id ∙ h)
 
   outcome_other : (other_id : TxnId) → same_id id other_id ≡ false → outcome_in other_id (it ∷ packets) ≡ outcome_in other_id packets
   outcome_other other_id h = outcome_is other_id ∙ cond-false _ _ _ (same_id-turned other_id id ∙ h)
@@ -248,17 +248,17 @@ module _ (all : Plain) (kind : TxnId → Bool) (packets : List ShardPacket) (val
   decide_other : (decided : TxnId → Option Answer) (answer : Answer) (other_id : TxnId) → same_id id other_id ≡ false → decide decided id answer other_id ≡ decided other_id
   decide_other decided answer other_id h = cond-false _ _ _ h
 
-  -- the outcome is decided already: no_values changes
+  -- the outcome is decided already: nothing changes
   repeated : (state : StoreState) (entries : List Entry) (answer : Answer) → state.decided id ≡ Some answer → Fit now state entries → Fit then state entries
   repeated state entries answer h fit = record {
     values = fit.values;
     order = fit.order;
-    each = Each-weaker _ _ (λ e f. fit_rest kind (it ∷ packets) packets state.recorded state.decided state.decided e (λ o p n. (n, fate_other e.packet.id (apart e.packet.id n))) f) entries fit.each;
+    each = Each-weaker _ _ (λ e f. fit_rest kind (it ∷ packets) packets state.recorded state.decided state.decided e (λ o p n. (n, writes_other e.packet.id (apart e.packet.id n))) f) entries fit.each;
     distinct = fit.distinct;
     holding = fit.holding;
     sound = fit.sound;
     logged = fit.logged;
-    linked = fit.linked ∙ ap (λ t. logged_answers entries no_values ++ t) serial_on;
+    linked = fit.linked ∙ ap (λ t. logged_answers entries no_values ++ t) run_on;
     reaches = fit.reaches;
     seen_is = fit.seen_is;
     decided_is = λ other_id. decided_on other_id (cases_Bool (same_id other_id id));
@@ -290,7 +290,7 @@ module _ (all : Plain) (kind : TxnId → Bool) (packets : List ShardPacket) (val
       by_test (inr q) = ap (λ t. t || is_among other_id concluded) q ∙ (fit.decided_is other_id ∙ sym (ap is_known (cond-false _ _ _ (same_id-turned id other_id ∙ q))))
 
   on_other : (state : StoreState) (answer : Answer) (recorded : TxnId → Phase → Option Answer) (entry : Entry) → (is_open entry.status ≡ true → is_prelim entry.packet.body ≡ true → Other id entry) → EntryFit kind (it ∷ packets) recorded state.decided entry → EntryFit kind packets recorded (decide state.decided id answer) entry
-  on_other state answer recorded entry h f = fit_rest kind (it ∷ packets) packets recorded state.decided (decide state.decided id answer) entry (λ o p n. (decide_other state.decided answer entry.packet.id (h o p) ∙ n, fate_other entry.packet.id (h o p))) f
+  on_other state answer recorded entry h f = fit_rest kind (it ∷ packets) packets recorded state.decided (decide state.decided id answer) entry (λ o p n. (decide_other state.decided answer entry.packet.id (h o p) ∙ n, writes_other entry.packet.id (h o p))) f
 
   -- there is no such preliminary yet
   before_it : (state : StoreState) (entries : List Entry) → Fit now state entries → all.outcome id ≡ Some Aborted → state.waiting ≡ waiting_in entries → holds id state.holding ≡ false → list_any (is_prelim_of id) state.waiting ≡ false
@@ -304,7 +304,7 @@ module _ (all : Plain) (kind : TxnId → Bool) (packets : List ShardPacket) (val
     holding = fit.holding;
     sound = fit.sound;
     logged = fit.logged;
-    linked = fit.linked ∙ ap (λ t. logged_answers entries no_values ++ t) serial_on;
+    linked = fit.linked ∙ ap (λ t. logged_answers entries no_values ++ t) run_on;
     reaches = fit.reaches;
     seen_is = fit.seen_is;
     decided_is = decided_more state entries Aborted fit;
@@ -339,7 +339,7 @@ module _ (all : Plain) (kind : TxnId → Bool) (packets : List ShardPacket) (val
         let before = others_before earlier held following fit.distinct in
         let after = others_after earlier held following fit.distinct in
         let prelim = mine.holder refl in
-        let granted : own_writes ≡ writes = mine.fated refl prelim ∙ (fate_is id ∙ cond-true _ _ _ (same_id-from id id refl)) in
+        let granted : own_writes ≡ writes = mine.writes_to_come refl prelim ∙ (writes_are id ∙ cond-true _ _ _ (same_id-from id id refl)) in
         record {
           values = λ x. written_at writes state.values x
               ∙ (ap (put_on writes x) (fit.values x)
@@ -355,7 +355,7 @@ module _ (all : Plain) (kind : TxnId → Bool) (packets : List ShardPacket) (val
                 kind_is = mine.kind_is;
                 known = λ w. mine.known refl;
                 undecided = λ o. absurd (cc);
-                fated = λ o. absurd (cc);
+                writes_to_come = λ o. absurd (cc);
                 holder = λ h. absurd (cc);
               }) fit.each;
           distinct = distinct_changed earlier held following Complete fit.distinct;
@@ -367,7 +367,7 @@ module _ (all : Plain) (kind : TxnId → Bool) (packets : List ShardPacket) (val
           sound = fit.sound;
           logged = λ other_id q k. has_id_changed other_id earlier held following Complete ∙ fit.logged other_id q k;
           linked = fit.linked ∙ (ap (λ t. t ++ plain_run values seen concluded (it ∷ packets)) (sym (logged_answers_changed earlier held following Complete no_values))
-              ∙ ap (λ t. logged_answers (earlier ++ with_status Complete held ∷ following) no_values ++ t) serial_on);
+              ∙ ap (λ t. logged_answers (earlier ++ with_status Complete held ∷ following) no_values ++ t) run_on);
           reaches = reached_changed earlier held following Complete no_values ∙ fit.reaches;
           seen_is = λ other_id. fit.seen_is other_id ∙ sym (has_id_changed other_id earlier held following Complete);
           decided_is = decided_more state (earlier ++ held ∷ following) outcome fit;
@@ -397,7 +397,7 @@ module _ (all : Plain) (kind : TxnId → Bool) (packets : List ShardPacket) (val
         let mine : EntryFit kind (it ∷ packets) state.recorded state.decided waiter = (Each-right _ earlier (waiter ∷ following) fit.each).0 in
         let before = others_before earlier waiter following fit.distinct in
         let after = others_after earlier waiter following fit.distinct in
-        let granted : own_writes ≡ [] = mine.fated refl prelim ∙ (fate_is id ∙ (cond-true _ _ _ (same_id-from id id refl) ∙ none)) in
+        let granted : own_writes ≡ [] = mine.writes_to_come refl prelim ∙ (writes_are id ∙ (cond-true _ _ _ (same_id-from id id refl) ∙ none)) in
         let phase : phase_of own_body ≡ Phase.Prelim = phase_is own_body mine.plain ∙ cond-true _ _ _ prelim in
         record {
           values = λ x. fit.values x ∙ (current-append x earlier (waiter ∷ following) None ∙ sym (current-append x earlier (with_status Void waiter ∷ following) None));
@@ -410,7 +410,7 @@ module _ (all : Plain) (kind : TxnId → Bool) (packets : List ShardPacket) (val
                 kind_is = mine.kind_is;
                 known = λ w. rw phase (known_here state.recorded id Phase.Prelim Aborted);
                 undecided = λ o. absurd (cc);
-                fated = λ o. absurd (cc);
+                writes_to_come = λ o. absurd (cc);
                 holder = λ h. absurd (cc);
               }) fit.each;
           distinct = distinct_changed earlier waiter following Void fit.distinct;
@@ -418,7 +418,7 @@ module _ (all : Plain) (kind : TxnId → Bool) (packets : List ShardPacket) (val
           sound = sound_noted all state.recorded id Phase.Prelim Aborted fit.sound (inr (refl, out));
           logged = λ other_id q k. has_id_changed other_id earlier waiter following Void ∙ logged_noted state.recorded Phase.Prelim Aborted earlier waiter following fit.logged other_id q k;
           linked = fit.linked ∙ (ap (λ t. t ++ plain_run values seen concluded (it ∷ packets)) (sym (logged_answers_changed earlier waiter following Void no_values))
-              ∙ ap (λ t. logged_answers (earlier ++ with_status Void waiter ∷ following) no_values ++ t) serial_on);
+              ∙ ap (λ t. logged_answers (earlier ++ with_status Void waiter ∷ following) no_values ++ t) run_on);
           reaches = reached_changed earlier waiter following Void no_values ∙ fit.reaches;
           seen_is = λ other_id. fit.seen_is other_id ∙ sym (has_id_changed other_id earlier waiter following Void);
           decided_is = decided_more state (earlier ++ waiter ∷ following) Aborted fit;

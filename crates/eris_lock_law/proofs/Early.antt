@@ -2,10 +2,10 @@ use Rattle.eris_base.specs.declared.ids.Phase.{Phase}
 use Rattle.eris_base.specs.declared.ids.Place.{Place}
 use Rattle.eris_base.specs.declared.ids.TxnId.{TxnId}
 use Rattle.eris_lock_law.proofs.Each.{Each-append, Each-filter, Each-left, Each-right}
-use Rattle.eris_lock_law.proofs.Fit.{known_here, known_noted}
+use Rattle.eris_lock_law.proofs.Fit.{known_here, known_noted, same_phases}
 use Rattle.eris_lock_law.proofs.Ids.{same_id-true}
 use Rattle.eris_lock_law.proofs.Prelims.{each_aborted_late, prelim_phase}
-use Rattle.eris_lock_law.proofs.Table.{fewer, same_phases}
+use Rattle.eris_lock_law.proofs.SaidFrom.{fewer}
 use Rattle.eris_locks.specs.Each.{Each}
 use Rattle.eris_locks.specs.LockTable.{Stepped, aborted_late, all_also, also, answer_of, arrive, arrive_new, conclude, conclude_first, done, end_holding, end_waiting, execute, holding_after, nothing_done, only, release, step, step_by}
 use Rattle.eris_locks.specs.Locks.{locks_of}
@@ -210,7 +210,7 @@ module _ (E : TxnId → Type 0) (kind : TxnId → Bool) where
         where
           by_rule : (E packet.id ⊎ (is_decided (state.recorded packet.id Phase.Prelim) ≡ true)) → E packet.id
           by_rule (inl h) = h
-          by_rule (inr h) = absurd (both_ways _ new (subst (λ (ph : Phase). is_decided (state.recorded packet.id ph) ≡ true) (sym (prelim_phase packet.body r)) h))
+          by_rule (inr h) = absurd (both_ways _ new (subst (λ (concludes_it : Phase). is_decided (state.recorded packet.id concludes_it) ≡ true) (sym (prelim_phase packet.body r)) h))
 
       shut : (is_prelim packet.body && is_decided (state.decided packet.id)) ≡ true → E packet.id
       shut test =
@@ -273,7 +273,7 @@ module _ (E : TxnId → Type 0) (kind : TxnId → Bool) where
       found o r d id t =
           let parts = and_parts (same_id id packet.id) (is_prelim packet.body) t in
           subst (λ (that_id : TxnId). is_decided (state.recorded that_id Phase.Prelim) ≡ true) (sym (same_id-true id packet.id parts.0))
-          (subst (λ (ph : Phase). is_decided (state.recorded packet.id ph) ≡ true) (prelim_phase packet.body parts.1) (ap is_decided r ∙ d))
+          (subst (λ (concludes_it : Phase). is_decided (state.recorded packet.id concludes_it) ≡ true) (prelim_phase packet.body parts.1) (ap is_decided r ∙ d))
 
       queued : waits packet.id state.waiting ≡ true → (id : TxnId) → is_prelim_of id packet ≡ true → list_any (is_prelim_of id) state.waiting ≡ true
       queued w id t =
@@ -292,7 +292,7 @@ module _ (E : TxnId → Type 0) (kind : TxnId → Bool) where
       by_record None r false w = arrives_new came state packet e k (ap is_decided r)
 
   concluding : (packet : ShardPacket) (answer : Answer) (late : Bool) → phase_of packet.body ≡ Phase.Conclude → EarlyDone (done packet.at packet answer late)
-  concluding packet answer late ph q = absurd (clash (sym ph ∙ q))
+  concluding packet answer late concludes_it q = absurd (clash (sym concludes_it ∙ q))
     where
       clash : Phase.Conclude ≡ Phase.Prelim → ⊥
       clash r = cc
@@ -331,7 +331,7 @@ module _ (E : TxnId → Type 0) (kind : TxnId → Bool) where
 
   concludes_first : (came : TxnId → Bool) (state : StoreState) (packet : ShardPacket) (outcome : Answer) (writes : List Write) → phase_of packet.body ≡ Phase.Conclude
       → Early came state state.waiting → state.decided packet.id ≡ None → Ends came state packet → EarlyStep came (conclude_first state packet outcome writes)
-  concludes_first came state packet outcome writes ph e d ends = by_test (holds packet.id state.holding) refl (list_any (is_prelim_of packet.id) state.waiting) refl
+  concludes_first came state packet outcome writes concludes_it e d ends = by_test (holds packet.id state.holding) refl (list_any (is_prelim_of packet.id) state.waiting) refl
     where
       at_end : list_any (is_prelim_of packet.id) state.waiting ≡ false → E packet.id ⊎ (is_decided (state.recorded packet.id Phase.Prelim) ≡ true)
       at_end w = by_came (cases_Bool (came packet.id))
@@ -360,7 +360,7 @@ module _ (E : TxnId → Type 0) (kind : TxnId → Bool) where
             held = λ id k. e.held id (fewer id packet.id state.holding k);
             waiting = e.waiting;
           }) in
-          record { state = r.state; dones = (concluding packet outcome false ph, r.dones) }
+          record { state = r.state; dones = (concluding packet outcome false concludes_it, r.dones) }
       by_test false h true w =
           let early = ends d (inl w) in
           let r = releases came packet.at (end_waiting state packet) [] (no_longer_waiting packet.id state.waiting) (record {
@@ -373,7 +373,7 @@ module _ (E : TxnId → Type 0) (kind : TxnId → Bool) where
           record {
             state = r.state;
             dones = (
-              concluding packet Aborted false ph,
+              concluding packet Aborted false concludes_it,
               Each-append EarlyDone (aborted_late packet.at packet.id state.waiting) (release packet.at (end_waiting state packet) [] (no_longer_waiting packet.id state.waiting)).dones
                   (each_aborted_late EarlyDone packet.at packet.id state.waiting (each_late packet.id packet.at state.waiting early)) r.dones,
             );
@@ -385,19 +385,19 @@ module _ (E : TxnId → Type 0) (kind : TxnId → Bool) where
           by_known id (inr k) = fewer_prelims state.recorded packet.id state.waiting id k
       by_test false h false w = record {
         state = record { aborted = e.aborted; ruled = ruled_more state.decided state.recorded packet.id Aborted e.ruled (at_end w); known = e.known; held = e.held; waiting = e.waiting };
-        dones = (concluding packet Aborted false ph, tt);
+        dones = (concluding packet Aborted false concludes_it, tt);
       }
 
   concludes : (came : TxnId → Bool) (state : StoreState) (packet : ShardPacket) (outcome : Answer) (writes : List Write) → phase_of packet.body ≡ Phase.Conclude
       → Early came state state.waiting → Ends came state packet → EarlyStep came (conclude state packet outcome writes)
-  concludes came state packet outcome writes ph e ends = by_decided (state.decided packet.id) refl
+  concludes came state packet outcome writes concludes_it e ends = by_decided (state.decided packet.id) refl
     where
       by_decided : (found : Option Answer) → state.decided packet.id ≡ found → EarlyStep came (elim found [
         | Some decided ↦ only state (done packet.at packet decided false)
         | None ↦ conclude_first state packet outcome writes
       ])
-      by_decided (Some a) d = record { state = e; dones = (concluding packet a false ph, tt) }
-      by_decided None d = concludes_first came state packet outcome writes ph e d ends
+      by_decided (Some a) d = record { state = e; dones = (concluding packet a false concludes_it, tt) }
+      by_decided None d = concludes_first came state packet outcome writes concludes_it e d ends
 
   no_prelim : (came : TxnId → Bool) (packet : ShardPacket) → is_prelim packet.body ≡ false → (id : TxnId) → came_with came packet id ≡ true → came id ≡ true
   no_prelim came packet n id h = by_case (came_cases came packet id h)

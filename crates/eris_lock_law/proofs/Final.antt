@@ -9,7 +9,7 @@ use Rattle.eris_lock_law.proofs.InTime.{in_time, plain_granted}
 use Rattle.eris_lock_law.proofs.Log.{AllLawful, Complete, Entry, Holds, Lawful, Status, Void, Waits, current, effect, final, is_complete, is_void}
 use Rattle.eris_lock_law.proofs.Release.{GoodDone}
 use Rattle.eris_lock_law.proofs.Runs.{dones_of_prefix, law_from, plain}
-use Rattle.eris_lock_law.proofs.Shape.{kind_of, kinds_of, wf_of}
+use Rattle.eris_lock_law.proofs.Shape.{goes_well, kind_of, kinds_of}
 use Rattle.eris_lock_law.proofs.Stuck.{none_waits, run_stuck}
 use Rattle.eris_locks.specs.Each.{Each}
 use Rattle.eris_locks.specs.Law.{EndedEarly, IsRight, IsRightDone, Said, plain_end}
@@ -29,7 +29,7 @@ use Rattle.std.specs.List.{list_any}
 use mathlib.Core.Path.{fun_ext}
 
 pub answers_good : (packets : List ShardPacket) → WellFormed packets → Each (GoodDone (plain packets)) (run_dones empty packets)
-answers_good packets wf = (law_from packets (kind_of packets) (wf_of packets wf)).good
+answers_good packets well = (law_from packets (kind_of packets) (goes_well packets well)).good
 
 done_right : (packets : List ShardPacket) (phase : Phase) (id : TxnId) (answer : Answer) → Good (plain packets) phase id answer → (phase ≡ Phase.Prelim → answer ≡ Aborted → EndedEarly packets id)
     → Said id phase answer (run_dones empty packets) → IsRight packets phase id answer
@@ -47,12 +47,12 @@ all_said (given ∷ dones) = (
 
 -- EACH ANSWER IS RIGHT
 pub answers_right : (packets : List ShardPacket) → WellFormed packets → Each (IsRightDone packets) (run_dones empty packets)
-answers_right packets wf =
+answers_right packets well =
     Each-with (λ given. Good (plain packets) given.phase given.id given.answer × EarlyDone (EndedEarly packets) (kind_of packets) given)
     (λ given. Said given.id given.phase given.answer (run_dones empty packets)) (IsRightDone packets)
     (λ given h said. done_right packets given.phase given.id given.answer h.0 h.1 said) (run_dones empty packets)
     (Each-with (GoodDone (plain packets)) (EarlyDone (EndedEarly packets) (kind_of packets)) (λ given. Good (plain packets) given.phase given.id given.answer × EarlyDone (EndedEarly packets) (kind_of packets) given)
-    (λ given h e. (h, e)) (run_dones empty packets) (answers_good packets wf) (early_answers packets (kind_of packets) (kinds_of packets wf)))
+    (λ given h e. (h, e)) (run_dones empty packets) (answers_good packets well) (early_answers packets (kind_of packets) (kinds_of packets well)))
     (all_said (run_dones empty packets))
 
 one_closed : (entry : Entry) (status : Status) (key : Key) (value : Option ℕ) (holding : List Held) (waiters : List ShardPacket) → Lawful entry → entry.status ≡ status
@@ -73,8 +73,8 @@ all_closed (entry ∷ entries) key value l h w =
     ap (current key entries) r.0 ∙ all_closed entries key (effect entry key value) l.1 r.1 r.2
 
 pub values_right : (packets : List ShardPacket) → WellFormed packets → (run_state empty packets).holding ≡ [] → (run_state empty packets).values ≡ plain_end packets
-values_right packets wf h =
-    let n = (law_from packets (kind_of packets) (wf_of packets wf)).next in
+values_right packets well h =
+    let n = (law_from packets (kind_of packets) (goes_well packets well)).next in
     let fit = n.right.fit in
     let log = n.right.log in
     let s = run_state empty packets in
@@ -88,6 +88,6 @@ waiting_none packets h = none_waits (run_state empty packets) (run_stuck packets
 
 -- AND SO IS WHAT A STORE ANSWERED that ran only a beginning of the list
 pub beginning_right : (packets rest : List ShardPacket) → WellFormed (packets ++ rest) → Each (IsRightDone (packets ++ rest)) (run_dones empty packets)
-beginning_right packets rest wf =
+beginning_right packets rest well =
     Each-left (IsRightDone (packets ++ rest)) (run_dones empty packets) (run_dones (run_state empty packets) rest)
-    (subst (λ (dones : List Done). Each (IsRightDone (packets ++ rest)) dones) (dones_of_prefix packets rest empty) (answers_right (packets ++ rest) wf))
+    (subst (λ (dones : List Done). Each (IsRightDone (packets ++ rest)) dones) (dones_of_prefix packets rest empty) (answers_right (packets ++ rest) well))

@@ -155,7 +155,7 @@ pub record EntryFit (kind : TxnId → Bool) (rest : List ShardPacket) (recorded 
   pub kind_is : is_prelim entry.packet.body ≡ kind entry.packet.id
   pub known : is_waiting entry.status ≡ false → is_known (recorded entry.packet.id (phase_of entry.packet.body)) ≡ true
   pub undecided : is_open entry.status ≡ true → is_prelim entry.packet.body ≡ true → decided entry.packet.id ≡ None
-  pub fated : is_open entry.status ≡ true → is_prelim entry.packet.body ≡ true → entry.writes ≡ writes_in entry.packet.id rest
+  pub writes_to_come : is_open entry.status ≡ true → is_prelim entry.packet.body ≡ true → entry.writes ≡ writes_in entry.packet.id rest
   pub holder : is_holding entry.status ≡ true → is_prelim entry.packet.body ≡ true
 
 abbrev pub Distinct : List Entry → Type 0
@@ -196,14 +196,14 @@ pub read_answer : (earlier : List Entry) (at : Place) (asker : ClientId) (id : T
     → ((key : Key) → values key ≡ current key (earlier ++ entry_of at asker id body own_writes Waits ∷ following) None)
     → AllLawful earlier → AllLawful following → OpenApart conflict earlier (locks_of body) → LaterApart conflict (locks_of body) following
     → answer_of body values ≡ answer_of body (reached earlier no_values)
-read_answer earlier at asker id (Independent ops) own_writes following values v we wf o l =
+read_answer earlier at asker id (Independent ops) own_writes following values v lawful_entry well o l =
     ap Ops (answers_agree ops values (reached earlier no_values) (λ key t.
-    v key ∙ (read_at_point conflict modes_conflict earlier (entry_of at asker id (Independent ops) own_writes Waits) following key None we wf o l refl t ∙ sym (reached_at earlier no_values key))))
-read_answer earlier at asker id (Prelim ls) own_writes following values v we wf o l =
+    v key ∙ (read_at_point conflict modes_conflict earlier (entry_of at asker id (Independent ops) own_writes Waits) following key None lawful_entry well o l refl t ∙ sym (reached_at earlier no_values key))))
+read_answer earlier at asker id (Prelim ls) own_writes following values v lawful_entry well o l =
     ap Answer.Values (reads_agree ls values (reached earlier no_values) (λ key t.
-    v key ∙ (read_at_point conflict modes_conflict earlier (entry_of at asker id (Prelim ls) own_writes Waits) following key None we wf o l refl t ∙ sym (reached_at earlier no_values key))))
-read_answer earlier at asker id (Commit keys writes) own_writes following values v we wf o l = refl
-read_answer earlier at asker id (Abort keys) own_writes following values v we wf o l = refl
+    v key ∙ (read_at_point conflict modes_conflict earlier (entry_of at asker id (Prelim ls) own_writes Waits) following key None lawful_entry well o l refl t ∙ sym (reached_at earlier no_values key))))
+read_answer earlier at asker id (Commit keys writes) own_writes following values v lawful_entry well o l = refl
+read_answer earlier at asker id (Abort keys) own_writes following values v lawful_entry well o l = refl
 
 pub distinct_changed : (earlier : List Entry) (entry : Entry) (following : List Entry) (status : Status) → Distinct (earlier ++ entry ∷ following) → Distinct (earlier ++ with_status status entry ∷ following)
 distinct_changed [] entry following status h = h
@@ -215,16 +215,16 @@ phase_same Phase.Whole = refl
 phase_same Phase.Prelim = refl
 phase_same Phase.Conclude = refl
 
-same_from_phase : (phase other_phase : Phase) → same_phase phase other_phase ≡ true → phase ≡ other_phase
-same_from_phase Phase.Whole Phase.Whole h = refl
-same_from_phase Phase.Whole Phase.Prelim h = cc
-same_from_phase Phase.Whole Phase.Conclude h = cc
-same_from_phase Phase.Prelim Phase.Whole h = cc
-same_from_phase Phase.Prelim Phase.Prelim h = refl
-same_from_phase Phase.Prelim Phase.Conclude h = cc
-same_from_phase Phase.Conclude Phase.Whole h = cc
-same_from_phase Phase.Conclude Phase.Prelim h = cc
-same_from_phase Phase.Conclude Phase.Conclude h = refl
+pub same_phases : (phase other_phase : Phase) → same_phase phase other_phase ≡ true → phase ≡ other_phase
+same_phases Phase.Whole Phase.Whole h = refl
+same_phases Phase.Whole Phase.Prelim h = cc
+same_phases Phase.Whole Phase.Conclude h = cc
+same_phases Phase.Prelim Phase.Whole h = cc
+same_phases Phase.Prelim Phase.Prelim h = refl
+same_phases Phase.Prelim Phase.Conclude h = cc
+same_phases Phase.Conclude Phase.Whole h = cc
+same_phases Phase.Conclude Phase.Prelim h = cc
+same_phases Phase.Conclude Phase.Conclude h = refl
 
 pub known_noted : (recorded : TxnId → Phase → Option Answer) (id : TxnId) (phase : Phase) (answer : Answer) (other_id : TxnId) (other_phase : Phase) → is_known (recorded other_id other_phase) ≡ true → is_known (note recorded id phase answer other_id other_phase) ≡ true
 known_noted recorded id phase answer other_id other_phase h = by_test (same_id id other_id && same_phase phase other_phase)
@@ -245,7 +245,7 @@ sound_noted plain_run_of recorded id phase answer h g i q c is = by_test (cases_
     by_test (inl t) =
         let parts = and_parts _ _ t in
         let here : id ≡ i = same_id-true id i parts.0 in
-        let there : phase ≡ q = same_from_phase phase q parts.1 in
+        let there : phase ≡ q = same_phases phase q parts.1 in
         let same : Some answer ≡ Some c = sym (cond-true _ _ _ t) ∙ is in
         let value : answer ≡ c = cc in
         subst (λ (r : Phase). Good plain_run_of r i c) there (subst (λ (that_id : TxnId). Good plain_run_of phase that_id c) here (subst (λ (d : Answer). Good plain_run_of phase id d) value g))

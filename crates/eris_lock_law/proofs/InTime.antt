@@ -5,7 +5,7 @@ use Rattle.eris_lock_law.proofs.Apart.{holder_waits_not}
 use Rattle.eris_lock_law.proofs.Ids.{same_id-from}
 use Rattle.eris_lock_law.proofs.Lost.{said_finds}
 use Rattle.eris_lock_law.proofs.Once.{never_aborted}
-use Rattle.eris_lock_law.proofs.Table.{is_granted, ran}
+use Rattle.eris_lock_law.proofs.SaidFrom.{is_granted, ran}
 use Rattle.eris_locks.specs.Law.{EndedEarly, HasPacket, IsPlain, Said}
 use Rattle.eris_locks.specs.LockTable.{run_dones, run_state}
 use Rattle.eris_locks.specs.ShardRun.{outcome_by, outcome_in}

@@ -12,7 +12,7 @@ mod Conclude
 mod Runs
 mod Shape
 mod Stuck
-mod Table
+mod SaidFrom
 mod Early
 mod Apart
 mod Ended

@@ -143,17 +143,17 @@ module _ (conflicts : List Lock → List Lock → Bool) (lawful : IsConflict con
   pub read_at_point : (earlier : List Entry) (entry : Entry) (following : List Entry) (key : Key) (value : Option ℕ)
       → AllLawful earlier → AllLawful following → OpenApart conflicts earlier (locks_in entry) → LaterApart conflicts (locks_in entry) following → is_complete entry.status ≡ false → touches key (locks_in entry) ≡ true
       → current key (earlier ++ entry ∷ following) value ≡ final key earlier value
-  read_at_point earlier entry following key value we wf o l c t =
+  read_at_point earlier entry following key value lawful_entry well o l c t =
       current-append key earlier (entry ∷ following) value
       ∙ (ap (current key following) (cond-false _ _ _ c)
-      ∙ (current_later (locks_in entry) following key (current key earlier value) wf l t
-      ∙ current_before earlier (locks_in entry) key value we o t))
+      ∙ (current_later (locks_in entry) following key (current key earlier value) well l t
+      ∙ current_before earlier (locks_in entry) key value lawful_entry o t))
 
   -- WHAT IT LEAVES takes its place among the complete ones
   pub left_in_place : (earlier : List Entry) (entry : Entry) (following : List Entry) (key : Key) (value : Option ℕ)
       → AllLawful following → LaterApart conflicts (locks_in entry) following → Lawful entry → is_complete entry.status ≡ false
       → current key (earlier ++ with_status Complete entry ∷ following) value ≡ effect entry key (current key (earlier ++ entry ∷ following) value)
-  left_in_place earlier entry following key value wf l we c = by_cases (cases_Bool (alters key (locks_in entry)))
+  left_in_place earlier entry following key value well l lawful_entry c = by_cases (cases_Bool (alters key (locks_in entry)))
     where
       before : Option ℕ
       before = current key earlier value
@@ -167,10 +167,10 @@ module _ (conflicts : List Lock → List Lock → Bool) (lawful : IsConflict con
       by_cases : ((alters key (locks_in entry) ≡ true) ⊎ (alters key (locks_in entry) ≡ false)) → current key (earlier ++ with_status Complete entry ∷ following) value ≡ effect entry key (current key (earlier ++ entry ∷ following) value)
       by_cases (inl a) =
           let t = touches_from_alters (locks_in entry) key a in
-          let one = current_later (locks_in entry) following key (effect entry key before) wf l t in
-          let two = current_later (locks_in entry) following key before wf l t in
+          let one = current_later (locks_in entry) following key (effect entry key before) well l t in
+          let two = current_later (locks_in entry) following key before well l t in
           left ∙ (one ∙ ap (effect entry key) (sym (right ∙ two)))
       by_cases (inr a) =
-          let one = we.kept key before a in
-          let two = we.kept key (current key following before) a in
+          let one = lawful_entry.kept key before a in
+          let two = lawful_entry.kept key (current key following before) a in
           left ∙ (ap (current key following) one ∙ (sym two ∙ ap (effect entry key) (sym right)))

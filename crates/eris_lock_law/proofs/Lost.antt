@@ -2,10 +2,11 @@ use Rattle.eris_base.specs.declared.ids.Phase.{Phase}
 use Rattle.eris_base.specs.declared.ids.Place.{Place}
 use Rattle.eris_base.specs.declared.ids.TxnId.{TxnId}
 use Rattle.eris_lock_law.proofs.Each.{Each-append}
+use Rattle.eris_lock_law.proofs.Fit.{same_phases}
 use Rattle.eris_lock_law.proofs.Ids.{same_id-from, same_id-true}
 use Rattle.eris_lock_law.proofs.Prelims.{each_aborted_late}
 use Rattle.eris_lock_law.proofs.Runs.{dones_of_prefix}
-use Rattle.eris_lock_law.proofs.Table.{is_granted, ran, said_holds, same_phases}
+use Rattle.eris_lock_law.proofs.SaidFrom.{is_granted, ran, said_holds}
 use Rattle.eris_locks.specs.Each.{Each}
 use Rattle.eris_locks.specs.Law.{HoldsOrDecided, Said}
 use Rattle.eris_locks.specs.LockTable.{Stepped, aborted_late, all_also, also, answer_of, arrive, arrive_new, conclude, conclude_first, done, execute, only, release, run_dones, run_state, step, step_by}
@@ -161,10 +162,10 @@ module _ (id : TxnId) where
   clash e = cc
 
   concluding : (state : StoreState) (packet : ShardPacket) (answer : Answer) (l : Bool) → phase_of packet.body ≡ Phase.Conclude → Silent (done packet.at packet answer l)
-  concluding state packet answer l ph e r = absurd (clash (sym ph ∙ r))
+  concluding state packet answer l concludes_it e r = absurd (clash (sym concludes_it ∙ r))
 
   concludes_first : (state : StoreState) (packet : ShardPacket) (outcome : Answer) (writes : List Write) → phase_of packet.body ≡ Phase.Conclude → Lost state → Stays (conclude_first state packet outcome writes)
-  concludes_first state packet outcome writes ph l = by_test (holds packet.id state.holding) (list_any (is_prelim_of packet.id) state.waiting)
+  concludes_first state packet outcome writes concludes_it l = by_test (holds packet.id state.holding) (list_any (is_prelim_of packet.id) state.waiting)
     where
       after_commit : StoreState
       after_commit = record { values = written writes state.values; recorded = state.recorded; decided = decide state.decided packet.id outcome; holding = no_longer_holding packet.id state.holding; waiting = [] }
@@ -182,28 +183,28 @@ module _ (id : TxnId) where
       ])
       by_test true other_test =
           let ih = releases packet.at after_commit [] state.waiting (record { decided = still_decided state.decided packet.id outcome l.decided; unread = l.unread; gone = refl }) refl l.gone in
-          record { state = ih.state; dones = (concluding state packet outcome false ph, ih.dones) }
+          record { state = ih.state; dones = (concluding state packet outcome false concludes_it, ih.dones) }
       by_test false true =
           let ih = releases packet.at after_wait [] (no_longer_waiting packet.id state.waiting) (record {
             decided = still_decided state.decided packet.id Aborted l.decided;
             unread = noted_other state.recorded packet.id Phase.Prelim Aborted (λ q r. refl) l.unread;
             gone = refl;
           }) refl (filtered (λ w. not (is_prelim_of packet.id w)) state.waiting l.gone) in
-          record { state = ih.state; dones = (concluding state packet Aborted false ph, Each-append Silent (aborted_late packet.at packet.id state.waiting) (release packet.at after_wait [] (no_longer_waiting packet.id state.waiting)).dones (each_aborted_late Silent packet.at packet.id state.waiting (all_silent packet.at packet.id state.waiting)) ih.dones) }
+          record { state = ih.state; dones = (concluding state packet Aborted false concludes_it, Each-append Silent (aborted_late packet.at packet.id state.waiting) (release packet.at after_wait [] (no_longer_waiting packet.id state.waiting)).dones (each_aborted_late Silent packet.at packet.id state.waiting (all_silent packet.at packet.id state.waiting)) ih.dones) }
       by_test false false = record {
         state = record { decided = still_decided state.decided packet.id Aborted l.decided; unread = l.unread; gone = l.gone };
-        dones = (concluding state packet Aborted false ph, tt);
+        dones = (concluding state packet Aborted false concludes_it, tt);
       }
 
   concludes : (state : StoreState) (packet : ShardPacket) (outcome : Answer) (writes : List Write) → phase_of packet.body ≡ Phase.Conclude → Lost state → Stays (conclude state packet outcome writes)
-  concludes state packet outcome writes ph l = by_decided (state.decided packet.id)
+  concludes state packet outcome writes concludes_it l = by_decided (state.decided packet.id)
     where
       by_decided : (found : Option Answer) → Stays (elim found [
         | Some answer ↦ only state (done packet.at packet answer false)
         | None ↦ conclude_first state packet outcome writes
       ])
-      by_decided (Some a) = record { state = l; dones = (concluding state packet a false ph, tt) }
-      by_decided None = concludes_first state packet outcome writes ph l
+      by_decided (Some a) = record { state = l; dones = (concluding state packet a false concludes_it, tt) }
+      by_decided None = concludes_first state packet outcome writes concludes_it l
 
   steps_by : (body : Body) (state : StoreState) (packet : ShardPacket) → packet.body ≡ body → Lost state → Stays (step_by body state packet)
   steps_by (Independent ops) state packet e l = arrives state packet l
@@ -219,7 +220,7 @@ module _ (id : TxnId) where
 
   -- how it gets lost: the first conclusory doesn't find it holding
   loses_first : (state : StoreState) (packet : ShardPacket) (outcome : Answer) (writes : List Write) → packet.id ≡ id → phase_of packet.body ≡ Phase.Conclude → holds id state.holding ≡ false → is_granted (state.recorded id Phase.Prelim) ≡ false → Stays (conclude_first state packet outcome writes)
-  loses_first state packet outcome writes same ph free un = by_test (holds packet.id state.holding) (list_any (is_prelim_of packet.id) state.waiting) refl refl
+  loses_first state packet outcome writes same concludes_it free ungranted = by_test (holds packet.id state.holding) (list_any (is_prelim_of packet.id) state.waiting) refl refl
     where
       after_wait : StoreState
       after_wait = record { values = state.values; recorded = note state.recorded packet.id Phase.Prelim Aborted; decided = decide state.decided packet.id Aborted; holding = state.holding; waiting = [] }
@@ -239,36 +240,36 @@ module _ (id : TxnId) where
       by_test false true a b =
           let ih = releases packet.at after_wait [] (no_longer_waiting packet.id state.waiting) (record {
             decided = now_decided;
-            unread = noted_other state.recorded packet.id Phase.Prelim Aborted (λ q r. refl) un;
+            unread = noted_other state.recorded packet.id Phase.Prelim Aborted (λ q r. refl) ungranted;
             gone = refl;
           }) refl (subst (λ i. list_any (is_prelim_of id) (no_longer_waiting i state.waiting) ≡ false) (sym same) (no_more state.waiting)) in
-          record { state = ih.state; dones = (concluding state packet Aborted false ph, Each-append Silent (aborted_late packet.at packet.id state.waiting) (release packet.at after_wait [] (no_longer_waiting packet.id state.waiting)).dones (each_aborted_late Silent packet.at packet.id state.waiting (all_silent packet.at packet.id state.waiting)) ih.dones) }
+          record { state = ih.state; dones = (concluding state packet Aborted false concludes_it, Each-append Silent (aborted_late packet.at packet.id state.waiting) (release packet.at after_wait [] (no_longer_waiting packet.id state.waiting)).dones (each_aborted_late Silent packet.at packet.id state.waiting (all_silent packet.at packet.id state.waiting)) ih.dones) }
       by_test false false a b = record {
-        state = record { decided = now_decided; unread = un; gone = subst (λ i. list_any (is_prelim_of i) state.waiting ≡ false) same b };
-        dones = (concluding state packet Aborted false ph, tt);
+        state = record { decided = now_decided; unread = ungranted; gone = subst (λ i. list_any (is_prelim_of i) state.waiting ≡ false) same b };
+        dones = (concluding state packet Aborted false concludes_it, tt);
       }
 
   loses : (state : StoreState) (packet : ShardPacket) (outcome : Answer) (writes : List Write) → packet.id ≡ id → phase_of packet.body ≡ Phase.Conclude → state.decided id ≡ None → holds id state.holding ≡ false → is_granted (state.recorded id Phase.Prelim) ≡ false → Stays (conclude state packet outcome writes)
-  loses state packet outcome writes same ph d free un = by_decided (state.decided packet.id) (ap state.decided same ∙ d)
+  loses state packet outcome writes same concludes_it d free ungranted = by_decided (state.decided packet.id) (ap state.decided same ∙ d)
     where
       by_decided : (found : Option Answer) → found ≡ None → Stays (elim found [
         | Some answer ↦ only state (done packet.at packet answer false)
         | None ↦ conclude_first state packet outcome writes
       ])
       by_decided (Some a) e = cc
-      by_decided None e = loses_first state packet outcome writes same ph free un
+      by_decided None e = loses_first state packet outcome writes same concludes_it free ungranted
 
   loses_by : (body : Body) (state : StoreState) (packet : ShardPacket) → packet.body ≡ body → packet.id ≡ id → phase_of packet.body ≡ Phase.Conclude → state.decided id ≡ None → holds id state.holding ≡ false → is_granted (state.recorded id Phase.Prelim) ≡ false → Stays (step_by body state packet)
-  loses_by (Independent ops) state packet e same ph d free un = absurd (first (sym (ap phase_of e) ∙ ph))
+  loses_by (Independent ops) state packet e same concludes_it d free ungranted = absurd (first (sym (ap phase_of e) ∙ concludes_it))
     where
       first : Phase.Whole ≡ Phase.Conclude → ⊥
       first q = cc
-  loses_by (Prelim locks) state packet e same ph d free un = absurd (first (sym (ap phase_of e) ∙ ph))
+  loses_by (Prelim locks) state packet e same concludes_it d free ungranted = absurd (first (sym (ap phase_of e) ∙ concludes_it))
     where
       first : Phase.Prelim ≡ Phase.Conclude → ⊥
       first q = cc
-  loses_by (Commit keys writes) state packet e same ph d free un = loses state packet Committed writes same ph d free un
-  loses_by (Abort keys) state packet e same ph d free un = loses state packet Aborted [] same ph d free un
+  loses_by (Commit keys writes) state packet e same concludes_it d free ungranted = loses state packet Committed writes same concludes_it d free ungranted
+  loses_by (Abort keys) state packet e same concludes_it d free ungranted = loses state packet Aborted [] same concludes_it d free ungranted
 
   silent_said : (answer : Answer) (dones : List Done) → is_granted (Some answer) ≡ true → Each Silent dones → Said id Phase.Prelim answer dones → ⊥
   silent_said answer [] granted h k = k
@@ -287,10 +288,10 @@ said_parts id phase answer (given ∷ dones) others (inr h) = by_part (said_part
 -- WHERE A PRELIMINARY WAS GRANTED, at any time, each conclusory before which none stands finds it holding
 pub said_finds : (id : TxnId) (answer : Answer) (front rest : List ShardPacket) (packet : ShardPacket) → packet.id ≡ id → phase_of packet.body ≡ Phase.Conclude → is_granted (Some answer) ≡ true
     → Said id Phase.Prelim answer (run_dones empty (front ++ packet ∷ rest)) → HoldsOrDecided (run_state empty front) id
-said_finds id answer front rest packet same ph granted k d = by_holds (cases_Bool (holds id (run_state empty front).holding))
+said_finds id answer front rest packet same concludes_it granted k d = by_holds (cases_Bool (holds id (run_state empty front).holding))
   where
-    un : holds id (run_state empty front).holding ≡ false → is_granted ((run_state empty front).recorded id Phase.Prelim) ≡ false
-    un free = by_test (cases_Bool (is_granted ((run_state empty front).recorded id Phase.Prelim)))
+    ungranted : holds id (run_state empty front).holding ≡ false → is_granted ((run_state empty front).recorded id Phase.Prelim) ≡ false
+    ungranted free = by_test (cases_Bool (is_granted ((run_state empty front).recorded id Phase.Prelim)))
       where
         by_test : ((is_granted ((run_state empty front).recorded id Phase.Prelim) ≡ true) ⊎ (is_granted ((run_state empty front).recorded id Phase.Prelim) ≡ false)) → is_granted ((run_state empty front).recorded id Phase.Prelim) ≡ false
         by_test (inl t) = absurd (both_ways _ free ((ran front).state.values id t d))
@@ -298,7 +299,7 @@ said_finds id answer front rest packet same ph granted k d = by_holds (cases_Boo
 
     later : holds id (run_state empty front).holding ≡ false → Said id Phase.Prelim answer (run_dones (run_state empty front) (packet ∷ rest)) → ⊥
     later free s =
-        let one = loses_by id packet.body (run_state empty front) packet refl same ph d free (un free) in
+        let one = loses_by id packet.body (run_state empty front) packet refl same concludes_it d free (ungranted free) in
         silent_said id answer (run_dones (run_state empty front) (packet ∷ rest)) granted (Each-append (Silent id) (step (run_state empty front) packet).dones (run_dones (step (run_state empty front) packet).state rest) one.dones (runs id rest (step (run_state empty front) packet).state one.state)) s
 
     by_part : holds id (run_state empty front).holding ≡ false → (Said id Phase.Prelim answer (run_dones empty front) ⊎ Said id Phase.Prelim answer (run_dones (run_state empty front) (packet ∷ rest))) → ⊥

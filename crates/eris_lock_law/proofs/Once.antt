@@ -17,7 +17,7 @@ use Rattle.std.proofs.lemmas.Bool.{both_ways, cases_Bool, or_from, or_left, or_r
 abbrev pub answer_to : TxnId → Answer → Served
 answer_to id answer = record { id = id; answer = answer }
 
--- the plain run of a shard has no_values of an id that it has seen
+-- the plain run of a shard has nothing of an id that it has seen
 pub not_again : (packets : List ShardPacket) (values : Values) (seen decided : List TxnId) (id : TxnId) (answer : Answer) → is_among id seen ≡ true → StandsIn (answer_to id answer) (plain_run values seen decided packets) → ⊥
 not_again [] values seen decided id answer h = λ k. k
 not_again (packet ∷ packets) values seen decided id answer h = by_test (is_conclusory packet.body) (is_among packet.id seen) refl

@@ -2,7 +2,7 @@ use Rattle.eris_base.specs.declared.ids.ClientId.{ClientId}
 use Rattle.eris_base.specs.declared.ids.Place.{Place}
 use Rattle.eris_base.specs.declared.ids.TxnId.{TxnId}
 use Rattle.eris_lock_law.proofs.Ids.{same_id-from, same_id-true}
-use Rattle.eris_lock_law.proofs.Runs.{Wf, WfHere, plain}
+use Rattle.eris_lock_law.proofs.Runs.{GoesWell, GoesWellHere, plain}
 use Rattle.eris_locks.specs.Each.{Each}
 use Rattle.eris_locks.specs.LockTable.{step}
 use Rattle.eris_locks.specs.Locks.{alters}
@@ -64,9 +64,9 @@ within_head id locks other_id (Abort keys) later a w = by_test (same_id id other
     by_test true = tt
     by_test false = w
 
-fate_within : (at : Place) (asker : ClientId) (id : TxnId) (locks : List Lock) (packets : List ShardPacket) → AgreeWith (record { at = at; asker = asker; id = id; body = Prelim locks }) packets → Each (λ write. alters write.key locks ≡ true) (writes_in id packets)
-fate_within at asker id locks [] a = tt
-fate_within at asker id locks (other ∷ packets) a = within_head id locks other.id other.body (writes_in id packets) a.0 (fate_within at asker id locks packets a.1)
+all_writes_within : (at : Place) (asker : ClientId) (id : TxnId) (locks : List Lock) (packets : List ShardPacket) → AgreeWith (record { at = at; asker = asker; id = id; body = Prelim locks }) packets → Each (λ write. alters write.key locks ≡ true) (writes_in id packets)
+all_writes_within at asker id locks [] a = tt
+all_writes_within at asker id locks (other ∷ packets) a = within_head id locks other.id other.body (writes_in id packets) a.0 (all_writes_within at asker id locks packets a.1)
 
 agree_right : (packet : ShardPacket) (front packets : List ShardPacket) → AgreeWith packet (front ++ packets) → AgreeWith packet packets
 agree_right packet [] packets h = h
@@ -74,24 +74,24 @@ agree_right packet (other ∷ front) packets h = agree_right packet front packet
 
 here : (state : StoreState) (front : List ShardPacket) (at : Place) (asker : ClientId) (id : TxnId) (body : Body) (packets : List ShardPacket) → AgreeWith (record { at = at; asker = asker; id = id; body = body }) (front ++ record { at = at; asker = asker; id = id; body = body } ∷ packets)
     → (is_commit body ≡ true → state.decided id ≡ None → holds id state.holding ≡ true)
-    → WfHere (kind_of (front ++ record { at = at; asker = asker; id = id; body = body } ∷ packets)) state id packets body
+    → GoesWellHere (kind_of (front ++ record { at = at; asker = asker; id = id; body = body } ∷ packets)) state id packets body
 here state front at asker id (Independent ops) packets a f = kind_fits front (record { at = at; asker = asker; id = id; body = Independent ops }) packets refl a
 here state front at asker id (Prelim ls) packets a f = (
   kind_fits front (record { at = at; asker = asker; id = id; body = Prelim ls }) packets refl a,
-  fate_within at asker id ls packets (agree_right (record { at = at; asker = asker; id = id; body = Prelim ls }) front (record { at = at; asker = asker; id = id; body = Prelim ls } ∷ packets) a).1,
+  all_writes_within at asker id ls packets (agree_right (record { at = at; asker = asker; id = id; body = Prelim ls }) front (record { at = at; asker = asker; id = id; body = Prelim ls } ∷ packets) a).1,
 )
 here state front at asker id (Commit keys ws) packets a f = f refl
 here state front at asker id (Abort keys) packets a f = tt
 
-wf_from : (all front packets : List ShardPacket) (state : StoreState) → all ≡ front ++ packets → Each (λ packet. AgreeWith packet all) packets → FindsHolding state packets → Wf (kind_of all) state packets
-wf_from all front [] state is a f = tt
-wf_from all front (p ∷ packets) state is a f = (
-  subst (λ (list : List ShardPacket). WfHere (kind_of list) state p.id packets p.body) (sym is) (here state front p.at p.asker p.id p.body packets (subst (λ (list : List ShardPacket). AgreeWith p list) is a.0) f.0),
-  wf_from all (front ++ p ∷ []) packets (step state p).state (is ∙ sym (append_assoc front (p ∷ []) packets)) a.1 f.1,
+goes_well_from : (all front packets : List ShardPacket) (state : StoreState) → all ≡ front ++ packets → Each (λ packet. AgreeWith packet all) packets → FindsHolding state packets → GoesWell (kind_of all) state packets
+goes_well_from all front [] state is a f = tt
+goes_well_from all front (p ∷ packets) state is a f = (
+  subst (λ (list : List ShardPacket). GoesWellHere (kind_of list) state p.id packets p.body) (sym is) (here state front p.at p.asker p.id p.body packets (subst (λ (list : List ShardPacket). AgreeWith p list) is a.0) f.0),
+  goes_well_from all (front ++ p ∷ []) packets (step state p).state (is ∙ sym (append_assoc front (p ∷ []) packets)) a.1 f.1,
 )
 
-pub wf_of : (packets : List ShardPacket) → WellFormed packets → Wf (kind_of packets) empty packets
-wf_of packets h = wf_from packets [] packets empty refl h.agree h.finds
+pub goes_well : (packets : List ShardPacket) → WellFormed packets → GoesWell (kind_of packets) empty packets
+goes_well packets h = goes_well_from packets [] packets empty refl h.agree h.finds
 
 kinds_from : (all front packets : List ShardPacket) → all ≡ front ++ packets → Each (λ packet. AgreeWith packet all) packets → Each (λ p. is_conclusory p.body ≡ false → is_prelim p.body ≡ kind_of all p.id) packets
 kinds_from all front [] is a = tt

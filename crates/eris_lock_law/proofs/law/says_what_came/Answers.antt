@@ -1,7 +1,7 @@
 use Rattle.std.proofs.Common.{[], refl}
 use Rattle.eris_lock_law.proofs.Lost.{said_finds}
 use Rattle.eris_lock_law.proofs.Once.{each_once, stands_once, never_aborted}
-use Rattle.eris_lock_law.proofs.Table.{said_from}
+use Rattle.eris_lock_law.proofs.SaidFrom.{said_from}
 use Rattle.eris_lock_law.proofs.law.says_what_came.Goals as goal
 use Rattle.eris_txn.specs.declared.answer.Answer.{Answer}
 use Rattle.eris_txn.specs.Keys.{no_values}

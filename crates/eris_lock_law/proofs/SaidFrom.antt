@@ -2,6 +2,7 @@ use Rattle.eris_base.specs.declared.ids.Phase.{Phase}
 use Rattle.eris_base.specs.declared.ids.Place.{Place}
 use Rattle.eris_base.specs.declared.ids.TxnId.{TxnId}
 use Rattle.eris_lock_law.proofs.Each.{Each-append, Each-filter, Each-weaker}
+use Rattle.eris_lock_law.proofs.Fit.{same_phases}
 use Rattle.eris_lock_law.proofs.Ids.{same_id-from, same_id-true}
 use Rattle.eris_lock_law.proofs.Prelims.{each_aborted_late}
 use Rattle.eris_locks.specs.Each.{Each}
@@ -32,17 +33,6 @@ is_granted (Some (Ops made)) = true
 is_granted (Some (Answer.Values read)) = true
 is_granted (Some Committed) = true
 is_granted (Some Aborted) = false
-
-pub same_phases : (phase other_phase : Phase) → same_phase phase other_phase ≡ true → phase ≡ other_phase
-same_phases Phase.Whole Phase.Whole h = refl
-same_phases Phase.Whole Phase.Prelim h = cc
-same_phases Phase.Whole Phase.Conclude h = cc
-same_phases Phase.Prelim Phase.Whole h = cc
-same_phases Phase.Prelim Phase.Prelim h = refl
-same_phases Phase.Prelim Phase.Conclude h = cc
-same_phases Phase.Conclude Phase.Whole h = cc
-same_phases Phase.Conclude Phase.Prelim h = cc
-same_phases Phase.Conclude Phase.Conclude h = refl
 
 holds_added : (id : TxnId) (locks : List Lock) (holding : List Held) → holds id (holding ++ record { id = id; locks = locks } ∷ []) ≡ true
 holds_added id locks holding = list_any-append (λ (held : Held). same_id id held.id) holding (record { id = id; locks = locks } ∷ []) ∙ or_right _ _ (or_left _ _ (same_id-from id id refl))
@@ -258,7 +248,7 @@ module _ (H : TxnId → Phase → Type 0) where
       by_test (inr t) ih = ih t
 
   concludes_first : (state : StoreState) (packet : ShardPacket) (outcome : Answer) (writes : List Write) → phase_of packet.body ≡ Phase.Conclude → Came state → H packet.id (phase_of packet.body) → Goes state (conclude_first state packet outcome writes)
-  concludes_first state packet outcome writes ph g h = by_test (holds packet.id state.holding) (list_any (is_prelim_of packet.id) state.waiting) refl
+  concludes_first state packet outcome writes concludes_it g h = by_test (holds packet.id state.holding) (list_any (is_prelim_of packet.id) state.waiting) refl
     where
       after_commit : StoreState
       after_commit = record {
@@ -288,11 +278,11 @@ module _ (H : TxnId → Phase → Type 0) where
       ])
       by_test true other_test e =
           let kept = decided_firm state packet.id outcome (no_longer_holding packet.id state.holding) (λ i n k. holds_kept i packet.id state.holding n k) in
-          let ih = releases packet.at after_commit [] state.waiting (record { recorded = g.recorded; waiting = tt; values = λ i v. kept i (g.values i v); held = λ i k. g.held i (fewer i packet.id state.holding k); decided = decided_from state.decided packet.id outcome g.decided (subst (H packet.id) ph h) }) tt g.waiting in
+          let ih = releases packet.at after_commit [] state.waiting (record { recorded = g.recorded; waiting = tt; values = λ i v. kept i (g.values i v); held = λ i k. g.held i (fewer i packet.id state.holding k); decided = decided_from state.decided packet.id outcome g.decided (subst (H packet.id) concludes_it h) }) tt g.waiting in
           record {
             state = ih.state;
             keep = λ i f. ih.keep i (kept i f);
-            dones = (record { from = h; firm = λ r v. no_reading (HoldsOrDecided (release packet.at after_commit [] state.waiting).state packet.id) (sym ph ∙ r) }, ih.dones);
+            dones = (record { from = h; firm = λ r v. no_reading (HoldsOrDecided (release packet.at after_commit [] state.waiting).state packet.id) (sym concludes_it ∙ r) }, ih.dones);
           }
       by_test false true e =
           let kept = decided_firm state packet.id Aborted state.holding (λ i n k. k) in
@@ -302,13 +292,13 @@ module _ (H : TxnId → Phase → Type 0) where
             waiting = tt;
             values = noted_granted state.recorded packet.id Phase.Prelim Aborted (HoldsOrDecided after_wait) (λ i v. kept i (g.values i v)) (λ r v. not_granted Aborted refl (HoldsOrDecided after_wait packet.id) v);
             held = g.held;
-            decided = decided_from state.decided packet.id Aborted g.decided (subst (H packet.id) ph h);
+            decided = decided_from state.decided packet.id Aborted g.decided (subst (H packet.id) concludes_it h);
           }) tt (Each-filter _ (λ w. not (is_prelim_of packet.id w)) state.waiting g.waiting) in
           record {
             state = ih.state;
             keep = λ i f. ih.keep i (kept i f);
             dones = (
-              record { from = h; firm = λ r v. no_reading (HoldsOrDecided (release packet.at after_wait [] (no_longer_waiting packet.id state.waiting)).state packet.id) (sym ph ∙ r) },
+              record { from = h; firm = λ r v. no_reading (HoldsOrDecided (release packet.at after_wait [] (no_longer_waiting packet.id state.waiting)).state packet.id) (sym concludes_it ∙ r) },
               Each-append _ (aborted_late packet.at packet.id state.waiting) (release packet.at after_wait [] (no_longer_waiting packet.id state.waiting)).dones
                   (each_aborted_late _ packet.at packet.id state.waiting (Each-weaker _ _ (λ w k test. record { from = k; firm = λ r v. not_granted Aborted refl (HoldsOrDecided (release packet.at after_wait [] (no_longer_waiting packet.id state.waiting)).state w.id) v }) state.waiting g.waiting))
                   ih.dones,
@@ -317,20 +307,20 @@ module _ (H : TxnId → Phase → Type 0) where
       by_test false false e =
           let kept = decided_firm state packet.id Aborted state.holding (λ i n k. k) in
           record {
-            state = record { recorded = g.recorded; waiting = g.waiting; values = λ i v. kept i (g.values i v); held = g.held; decided = decided_from state.decided packet.id Aborted g.decided (subst (H packet.id) ph h) };
+            state = record { recorded = g.recorded; waiting = g.waiting; values = λ i v. kept i (g.values i v); held = g.held; decided = decided_from state.decided packet.id Aborted g.decided (subst (H packet.id) concludes_it h) };
             keep = kept;
-            dones = (record { from = h; firm = λ r v. no_reading (HoldsOrDecided (record state { decided = decide state.decided packet.id Aborted }) packet.id) (sym ph ∙ r) }, tt);
+            dones = (record { from = h; firm = λ r v. no_reading (HoldsOrDecided (record state { decided = decide state.decided packet.id Aborted }) packet.id) (sym concludes_it ∙ r) }, tt);
           }
 
   concludes : (state : StoreState) (packet : ShardPacket) (outcome : Answer) (writes : List Write) → phase_of packet.body ≡ Phase.Conclude → Came state → H packet.id (phase_of packet.body) → Goes state (conclude state packet outcome writes)
-  concludes state packet outcome writes ph g h = by_decided (state.decided packet.id)
+  concludes state packet outcome writes concludes_it g h = by_decided (state.decided packet.id)
     where
       by_decided : (found : Option Answer) → Goes state (elim found [
         | Some answer ↦ only state (done packet.at packet answer false)
         | None ↦ conclude_first state packet outcome writes
       ])
-      by_decided (Some a) = record { state = g; keep = λ i f. f; dones = (record { from = h; firm = λ r v. no_reading (HoldsOrDecided state packet.id) (sym ph ∙ r) }, tt) }
-      by_decided None = concludes_first state packet outcome writes ph g h
+      by_decided (Some a) = record { state = g; keep = λ i f. f; dones = (record { from = h; firm = λ r v. no_reading (HoldsOrDecided state packet.id) (sym concludes_it ∙ r) }, tt) }
+      by_decided None = concludes_first state packet outcome writes concludes_it g h
 
   steps_by : (body : Body) (state : StoreState) (packet : ShardPacket) → packet.body ≡ body → Came state → H packet.id (phase_of packet.body) → Goes state (step_by body state packet)
   steps_by (Independent ops) state packet e g h = arrives state packet g h
