@@ -1,8 +1,5 @@
 -- How many there are of what, in a world that a run leads to.
-use Rattle.std.proofs.Common.{◌≡◌, ℕ, ◌+◌, ◌*◌, ◌≤◌, List, ◌++◌, length, arith, length-append, append_assoc, subst, ap, ◌∙◌, sym}
-use Rattle.std.specs.Prelude.{Ok}
-use Rattle.eris_txn.specs.declared.packet.Packet.{Packet}
-use Rattle.eris_world.specs.declared.thin_event.Event.{Event}
+use Rattle.std.proofs.Common.{◌≡◌, ◌*◌, ◌≤◌, List, ◌++◌, length, arith, length-append, append_assoc, subst, ap, ◌∙◌, sym}
 use Rattle.eris_world.specs.ThinWorld.{WorldState}
 use Rattle.eris_world.specs.ThinKept.{IsOfRun}
 use Rattle.eris_world.specs.ThinOrder.{order}

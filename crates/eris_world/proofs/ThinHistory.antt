@@ -1,20 +1,15 @@
 -- A history of submissions and answers in order.
-use Rattle.std.proofs.Common.{◌≡◌, ◌≢◌, ℕ, ◌+◌, ◌≤◌, ◌<◌, Bool, true, false, List, [], ◌∷◌, ◌++◌, length, refl, ap, sym, ◌∙◌, subst, arith, append_assoc, append-nil, inl, inr}
-use Rattle.std.specs.Prelude.{Some, None, filter, ◌⊎◌, ◌||◌, unwrap_or, ⊤}
-use Rattle.std.specs.List.{list_any}
+use Rattle.std.proofs.Common.{◌≡◌, ℕ, ◌+◌, ◌≤◌, List, [], ◌∷◌, ◌++◌, refl, ap, sym, ◌∙◌, subst, arith, append_assoc}
+use Rattle.std.specs.Prelude.{Some, filter, unwrap_or, ⊤}
 use Rattle.eris_base.specs.declared.ids.TxnId.{TxnId}
 use Rattle.eris_txn.specs.declared.txn.Txn.{Txn}
 use Rattle.eris_txn.specs.declared.txn.Txn.TheVariants.{Whole}
-use Rattle.eris_txn.specs.declared.answer.Answer.{Answer}
 use Rattle.eris_txn.specs.declared.history.HistoryEvent.{HistoryEvent}
 use Rattle.eris_txn.specs.declared.history.HistoryEvent.TheVariants as happened
 use Rattle.eris_txn.specs.Keys.{Values, no_values}
-use Rattle.eris_txn.specs.Operations.{after_all}
 use Rattle.eris_audit.specs.Each.{Each, EachAfter}
-use Rattle.eris_audit.specs.Lines.{Line, has_line, stands_before}
 use Rattle.eris_audit.specs.Histories.{first_submit, txn_of}
 use Rattle.eris_audit.specs.IsSerial.{FollowsAnswered, AnsweredStandsBefore}
-use Rattle.eris_audit.specs.TxnIds.{same_id}
 use Rattle.eris_world.proofs.ThinJobs.{Job, id_of, submits, after_jobs, answer_at, told, NumberedFrom, after_jobs-append}
 use Rattle.eris_world.proofs.ThinLines.{done_lines, Knows, ascending, first_submit-filter, first_submit-job}
 use Rattle.eris_world.proofs.ThinCourse.{is_submit, is_answer, IsInOrder}

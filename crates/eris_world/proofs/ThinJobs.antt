@@ -1,6 +1,5 @@
 -- Jobs: what the client submitted, in order, each with its number.
-use Rattle.std.proofs.Common.{◌≡◌, ℕ, ◌+◌, List, [], ◌∷◌, ◌++◌, length, map, refl, ap, sym, ◌∙◌, arith, length-append, append_assoc, add-one, suc}
-use Rattle.std.proofs.lemmas.List.{map-append}
+use Rattle.std.proofs.Common.{◌≡◌, ℕ, ◌+◌, List, [], ◌∷◌, ◌++◌, length, refl, ap, arith, suc}
 use Rattle.eris_base.specs.declared.ids.TxnId.{TxnId}
 use Rattle.eris_txn.specs.declared.op.Op.{Op}
 use Rattle.eris_txn.specs.declared.body.Body.TheVariants.{Independent}
@@ -10,7 +9,7 @@ use Rattle.eris_txn.specs.declared.answer.Answer.TheVariants.{Ops}
 use Rattle.eris_txn.specs.declared.txn.Txn.TheVariants.{Whole}
 use Rattle.eris_txn.specs.declared.history.HistoryEvent.{HistoryEvent}
 use Rattle.eris_txn.specs.declared.history.HistoryEvent.TheVariants as happened
-use Rattle.eris_txn.specs.Keys.{Values, no_values}
+use Rattle.eris_txn.specs.Keys.{Values}
 use Rattle.eris_txn.specs.Operations.{answers, after_all}
 use Rattle.eris_world.specs.declared.thin_message.Message.{Message}
 use Rattle.eris_world.specs.declared.thin_message.Message.TheVariants as message

@@ -1,11 +1,9 @@
 -- Every run is good.
-use Rattle.std.proofs.Common.{◌≡◌, ◌≢◌, ℕ, ◌+◌, ◌≤◌, ◌<◌, Bool, true, false, List, [], ◌∷◌, ◌++◌, length, map, refl, ap, sym, ◌∙◌, subst, arith, append_assoc, append-nil, length-append}
+use Rattle.std.proofs.Common.{◌≡◌, ◌≢◌, ℕ, ◌+◌, ◌≤◌, ◌<◌, Bool, true, false, List, [], ◌∷◌, ◌++◌, length, map, refl, ap, sym, ◌∙◌, subst, arith, append_assoc, append-nil}
 use Rattle.std.proofs.lemmas.Bool.{eqb-true, eq-eqb}
 use Rattle.std.proofs.lemmas.List.Elements.{filter-append}
-use Rattle.std.specs.Prelude.{Some, Ok, filter, ◌==◌, is_some}
+use Rattle.std.specs.Prelude.{Some, Ok, filter, ◌==◌}
 use Rattle.std.specs.List.{list_any}
-use Rattle.eris_base.specs.declared.ids.TxnId.{TxnId}
-use Rattle.eris_txn.specs.declared.txn.Txn.{Txn}
 use Rattle.eris_txn.specs.declared.txn.Txn.TheVariants.{Whole}
 use Rattle.eris_txn.specs.declared.packet.Packet.{Packet}
 use Rattle.eris_txn.specs.declared.history.HistoryEvent.{HistoryEvent}
@@ -13,13 +11,13 @@ use Rattle.eris_txn.specs.declared.history.HistoryEvent.TheVariants as happened
 use Rattle.eris_txn.specs.Keys.{no_values}
 use Rattle.eris_audit.specs.Each.{Each, EachAfter}
 use Rattle.eris_audit.specs.Histories.{txn_of, first_submit}
-use Rattle.eris_audit.specs.IsSerial.{IsSerial, IsOrderLine, HasItsLine, GuardsHold, EqualsRun, IsAnswer, IsToldOutcome, is_whole}
+use Rattle.eris_audit.specs.IsSerial.{IsSerial, IsOrderLine, HasItsLine, GuardsHold, EqualsRun, IsToldOutcome}
 use Rattle.eris_audit.specs.declared.outcome.Outcome.TheVariants.{Done}
 use Rattle.eris_audit.specs.Lines.{Line, lines_of}
 use Rattle.eris_world.specs.declared.thin_event.Event.{Event}
 use Rattle.eris_world.specs.ThinWorld.{WorldState, run}
-use Rattle.eris_world.specs.ThinOrder.{number_of, survives, order, line_of, order_lines, Good}
-use Rattle.eris_world.proofs.ThinJobs.{Job, id_of, packet_of, packets, submits, told, answer_at, after_jobs, NumberedFrom, packets-append, number_behind, length-packets}
+use Rattle.eris_world.specs.ThinOrder.{number_of, order, line_of, order_lines, Good}
+use Rattle.eris_world.proofs.ThinJobs.{Job, id_of, packet_of, packets, submits, told, answer_at, after_jobs, NumberedFrom, packets-append, number_behind}
 use Rattle.eris_world.proofs.ThinLines.{done_lines, done_lines-append, has_none, has_one, result_is, Knows, knows_front, numbered_front, numbered_back, not_true, or_right, or_left, first_submit-filter, first_submit-job}
 use Rattle.eris_world.proofs.ThinHistory.{each_event, each_told, knows_jobs, follows}
 use Rattle.eris_world.proofs.ThinCourse.{Course, Goes, is_answer, is_submit, run_goes}

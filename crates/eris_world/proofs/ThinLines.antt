@@ -1,21 +1,20 @@
 -- The lines of numbered jobs, and the serial run over them.
-use Rattle.std.proofs.Common.{◌≡◌, ◌≢◌, ℕ, ◌+◌, ◌≤◌, ◌<◌, Bool, true, false, cond, ◌&&◌, List, [], ◌∷◌, ◌++◌, length, map, refl, ap, sym, ◌∙◌, subst, arith, append_assoc, append-nil, inl, inr, suc}
+use Rattle.std.proofs.Common.{◌≡◌, ◌≢◌, ℕ, ◌+◌, ◌≤◌, ◌<◌, Bool, true, false, ◌&&◌, List, [], ◌∷◌, ◌++◌, length, refl, ap, subst, arith, inl, inr, suc}
 use Rattle.std.proofs.lemmas.Bool.{eqb-true, eq-eqb}
-use Rattle.std.specs.Prelude.{Option, Some, None, filter, is_some, ◌⊎◌, ◌||◌, ◌==◌, if◌then◌else◌}
+use Rattle.std.specs.Prelude.{Some, filter, ◌⊎◌, ◌||◌, ◌==◌, if◌then◌else◌}
 use Rattle.eris_base.specs.declared.ids.TxnId.{TxnId}
 use Rattle.eris_txn.specs.declared.txn.Txn.{Txn}
 use Rattle.eris_txn.specs.declared.txn.Txn.TheVariants.{Whole}
-use Rattle.eris_txn.specs.declared.answer.Answer.{Answer}
 use Rattle.eris_txn.specs.declared.history.HistoryEvent.{HistoryEvent}
 use Rattle.eris_txn.specs.declared.history.HistoryEvent.TheVariants as happened
-use Rattle.eris_txn.specs.Keys.{Values, no_values}
+use Rattle.eris_txn.specs.Keys.{Values}
 use Rattle.eris_txn.specs.Operations.{after_all}
 use Rattle.eris_audit.specs.declared.outcome.Outcome.TheVariants.{Done}
 use Rattle.eris_audit.specs.Lines.{Line, has_line, stands_before}
-use Rattle.eris_audit.specs.SerialRun.{result_in, values_after, left_by_txn, result_of}
+use Rattle.eris_audit.specs.SerialRun.{result_in}
 use Rattle.eris_audit.specs.Histories.{first_submit}
 use Rattle.eris_audit.specs.TxnIds.{same_id}
-use Rattle.eris_world.proofs.ThinJobs.{Job, id_of, submits, after_jobs, answer_at, told, NumberedFrom, number_behind}
+use Rattle.eris_world.proofs.ThinJobs.{Job, id_of, submits, after_jobs, answer_at, NumberedFrom, number_behind}
 use Rattle.eris_world.proofs.ThinCourse.{is_submit}
 
 and_second : (a b : Bool) → (a && b) ≡ true → b ≡ true

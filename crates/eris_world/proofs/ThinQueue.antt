@@ -1,6 +1,5 @@
 -- the part of a list that is still to come
-use Rattle.std.proofs.Common.{◌≡◌, ℕ, ◌+◌, ◌≤◌, ◌<◌, List, [], ◌∷◌, ◌++◌, length, drop, refl, ap, subst, sym, arith, suc, zero, add-one, length-append}
-use Rattle.std.proofs.lemmas.List.{drop-append-le}
+use Rattle.std.proofs.Common.{◌≡◌, ℕ, ◌+◌, ◌≤◌, List, [], ◌∷◌, length, drop, arith, suc, zero, add-one}
 
 module _ {X : Type 0} where
   -- past the first of what is left

@@ -4,7 +4,7 @@ use Rattle.eris_script.specs.declared.report.Report.{Report}
 use Rattle.eris_txn.specs.declared.packet.Packet.{Packet}
 use Rattle.eris_world.specs.ThinWorld.{WorldState}
 use Rattle.eris_world.specs.ThinKept.{IsOfRun}
-use Rattle.eris_world.specs.ThinOrder.{line_of, order}
+use Rattle.eris_world.specs.ThinOrder.{line_of}
 use Rattle.eris_world.specs.ThinReport.{report_of, replica_line}
 use Rattle.eris_world.proofs.ThinCounts.{order_of_run}
 

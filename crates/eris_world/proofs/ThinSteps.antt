@@ -7,7 +7,7 @@ use Rattle.eris_world.specs.declared.thin_event.Event.TheVariants.{Submit, Flow}
 use Rattle.eris_world.specs.declared.thin_message.Message.{Message}
 use Rattle.eris_world.specs.declared.thin_refusal.Refusal.{Refusal}
 use Rattle.eris_world.specs.declared.thin_refusal.Refusal.TheVariants.{NoSuchClient, NoSuchShard}
-use Rattle.eris_world.specs.ThinWorld.{WorldState, start, run, run_from, after, submitted, flowed, flowed_by, handed, waiting, the_client, are_on_shard, unless}
+use Rattle.eris_world.specs.ThinWorld.{WorldState, start, run_from, after, submitted, flowed, flowed_by, handed, waiting, the_client, are_on_shard, unless}
 use Rattle.eris_world.specs.ThinKept.{IsOfRun}
 use Rattle.eris_world.specs.ThinWaiting.{IsNext, first_of}
 

@@ -1,4 +1,4 @@
-use Rattle.std.specs.Prelude.{◌≡◌, Bool, false, List, Ok}
+use Rattle.std.specs.Prelude.{◌≡◌, Bool, List, Ok}
 use Rattle.eris_world.specs.declared.thin_event.Event.{Event}
 use Rattle.eris_world.specs.ThinWorld.{WorldState, run}
 

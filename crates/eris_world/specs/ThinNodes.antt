@@ -9,13 +9,8 @@ use Rattle.eris_txn.specs.declared.body.Body.TheVariants.{Independent, Prelim, C
 use Rattle.eris_txn.specs.declared.packet.Packet.{Packet}
 use Rattle.eris_txn.specs.declared.answer.Answer.{Answer}
 use Rattle.eris_txn.specs.declared.answer.Answer.TheVariants.{Ops}
-use Rattle.eris_txn.specs.declared.txn.Txn.TheVariants.{Whole}
-use Rattle.eris_txn.specs.declared.history.HistoryEvent.{HistoryEvent}
-use Rattle.eris_txn.specs.declared.history.HistoryEvent.TheVariants as event
 use Rattle.eris_txn.specs.Keys.{Values, no_values}
 use Rattle.eris_txn.specs.Operations.{answers, after_all}
-use Rattle.eris_world.specs.declared.thin_message.Message.{Message}
-use Rattle.eris_world.specs.declared.thin_message.Message.TheVariants as message
 
 -- the sequencer: the packets that it stamped, in order
 pub record SequencerState : Type 0 where

@@ -1,5 +1,5 @@
 -- The order of a world, and what makes a world good.
-use Rattle.std.specs.Prelude.{◌≡◌, ◌==◌, ℕ, Bool, List, [], ◌∷◌, ◌++◌, map, filter, unwrap_or}
+use Rattle.std.specs.Prelude.{◌≡◌, ◌==◌, ℕ, Bool, List, [], ◌++◌, map, filter, unwrap_or}
 use Rattle.std.specs.List.{list_any}
 use Rattle.eris_base.specs.Places.{number_in}
 use Rattle.eris_base.specs.declared.ids.ShardId.{ShardId}

@@ -1,5 +1,5 @@
 -- What a world reports of itself.
-use Rattle.std.specs.Prelude.{ℕ, List, [], ◌∷◌, length}
+use Rattle.std.specs.Prelude.{ℕ, [], ◌∷◌, length}
 use Rattle.eris_script.specs.declared.report.Report.{Report}
 use Rattle.eris_script.specs.declared.report.ReplicaLine.{ReplicaLine}
 use Rattle.eris_script.specs.declared.report.ReplicaState.TheVariants.{Normal}

@@ -2,7 +2,7 @@ use Rattle.std.proofs.Common.{◌≡◌, ap, ◌∙◌, subst, false, Some, drop
 use Rattle.eris_world.specs.ThinWorld.{waiting}
 use Rattle.eris_world.specs.ThinWaiting.{first_of}
 use Rattle.eris_world.specs.ThinKept.{IsOfRun}
-use Rattle.eris_world.specs.declared.thin_message.Message.TheVariants.{Ask, Txn, Reply}
+use Rattle.eris_world.specs.declared.thin_message.Message.TheVariants.{Txn}
 use Rattle.eris_world.proofs.ThinCounts.{Counts, counts_of}
 use Rattle.eris_world.proofs.ThinSteps.{of_run_flowed, flowed_first}
 use Rattle.eris_world.proofs.thin_world.World.deliver_packet.Goals as goal

@@ -1,0 +1,18 @@
+use Rattle.eris_lock_law.proofs.Keys.{modes_conflict}
+use Rattle.eris_lock_law.proofs.Final.{answers_right, beginning_right, values_right, waiting_none}
+use Rattle.eris_lock_law.proofs.law.answers_as_if_alone.Goals as goal
+
+pub returns-clause-answers : goal.returns-clause-answers
+returns-clause-answers c = answers_right
+
+pub returns-clause-beginning : goal.returns-clause-beginning
+returns-clause-beginning c = beginning_right
+
+pub returns-clause-nothing_waits : goal.returns-clause-nothing_waits
+returns-clause-nothing_waits c = waiting_none
+
+pub returns-clause-values : goal.returns-clause-values
+returns-clause-values c = values_right
+
+pub returns-clause-modes : goal.returns-clause-modes
+returns-clause-modes c = modes_conflict

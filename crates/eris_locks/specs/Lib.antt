@@ -1,0 +1,9 @@
+pub mod Each
+pub mod TxnIds
+pub mod Shards
+pub mod Locks
+pub mod States
+pub mod LockTable
+pub mod ShardRun
+pub mod WellFormed
+pub mod Law
