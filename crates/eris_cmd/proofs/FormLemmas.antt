@@ -1,11 +1,10 @@
 -- A line is read as just what it spells.
-use Rattle.std.proofs.Common.{◌≡◌, ◌==◌, ℕ, zero, suc, ◌+◌, ◌^◌, ◌-◌, ◌<◌, ◌≤◌, Bool, true, false, not, cond, ◌&&◌, nat_lt, nat_le, ◌≢◌, IsTrue, bytes_eq, codes, Option, Some, None, option_map, option_and_then, List, [], ◌∷◌, ◌++◌, length, take, drop, get_or, inl, inr, ap, sym, ◌∙◌, refl, arith, lit<, one-add, add-one, append_assoc}
+use Rattle.std.proofs.Common.{◌≡◌, ℕ, suc, ◌+◌, ◌^◌, ◌-◌, ◌<◌, Bool, true, false, cond, ◌&&◌, ◌≢◌, IsTrue, bytes_eq, codes, Option, Some, None, option_map, option_and_then, List, [], ◌∷◌, ◌++◌, length, take, drop, inl, inr, ap, sym, ◌∙◌, refl, arith, lit<, one-add, append_assoc}
 use Rattle.std.specs.List.{before_first, after_first, position_or_len, list_all}
 use Rattle.std.proofs.Math.Seq.{take-append_seam, drop-append_seam, drop-append-add}
 use Rattle.std.proofs.Math.ListN.{drop_of_length-le}
 use Rattle.std.proofs.lemmas.Bool.{cases_lt, eqb-true}
 use Rattle.std.proofs.lemmas.Bool.Decides.{nat_tests}
-use Rattle.std.proofs.lemmas.Grind.{common_steps}
 use Rattle.std.proofs.lemmas.List.{take-append-drop}
 use Rattle.std.proofs.lemmas.List.Sums.{split_at_first, passes_at_first}
 use Rattle.std.proofs.lemmas.Slice.Eq.{bytes_eq-Decides}
@@ -35,7 +34,7 @@ behind_follows : (front line rest : List ℕ) → behind front line ≡ Some res
 behind_follows front line rest found =
     sym (take-append-drop (length front) line)
     ∙ front_of_some front (take (length front) line) (drop (length front) line) rest (bytes_eq (take (length front) line) front)
-      (bytes_eq-Decides (take (length front) line) front).0 found
+    (bytes_eq-Decides (take (length front) line) front).0 found
 
 -- NAMES AND NUMBERS
 
@@ -92,13 +91,14 @@ put_spelled : (words name : List ℕ) (value : ℕ) → put_of words ≡ Some (P
 unfolding put_of
 put_spelled words name value read =
     let parts = put_parts (is_name (before_first is_space words)) (before_first is_space words) name
-      (read_decimal (2 ^ 64 - 1) (after_first is_space words)) value read in
-    let number = read_decimal_only (2 ^ 64 - 1) (after_first is_space words) value (lit< tt) parts.2 in
-    (space_behind (2 ^ 64 - 1) value words parts.2
-      ∙ ap (λ front. front ++ 32 ∷ after_first is_space words) parts.1
-      ∙ ap (λ digits. name ++ 32 ∷ digits) number.0,
-     sym (ap is_name parts.1) ∙ parts.0,
-     omega (arith, number.1))
+    (read_decimal (2 ^ 64 - 1) (after_first is_space words)) value read in
+    let number = read_decimal_only (2 ^ 64 - 1) (after_first is_space words) value (lit< tt) parts.2 in (
+      space_behind (2 ^ 64 - 1) value words parts.2
+          ∙ ap (λ front. front ++ 32 ∷ after_first is_space words) parts.1
+          ∙ ap (λ digits. name ++ 32 ∷ digits) number.0,
+      sym (ap is_name parts.1) ∙ parts.0,
+      omega (arith, number.1),
+    )
 
 flow_spelled : (word : List ℕ) (times : ℕ) → flow_of word ≡ Some (Flow times) → (word ≡ decimal times) × (times < 2 ^ 32)
 unfolding flow_of
@@ -111,7 +111,7 @@ unfolding put_of
 put_read name value named fits =
     let bytes : list_all is_name_byte name ≡ true = (both _ (list_all is_name_byte name) named).1 in
     rw (before-name name (decimal value) bytes) (rw named (rw (after-name name (decimal value) bytes)
-      (ap (option_map (Put name)) (read_decimal-decimal (2 ^ 64 - 1) value (lit< tt) (omega arith)))))
+    (ap (option_map (Put name)) (read_decimal-decimal (2 ^ 64 - 1) value (lit< tt) (omega arith)))))
 
 flow_read : (times : ℕ) → times < 2 ^ 32 → flow_of (decimal times) ≡ Some (Flow times)
 unfolding flow_of
@@ -180,9 +180,9 @@ put_of_line line name value read = of_asked (line_asked line (Put name value) (�
         let parts = put_spelled words name value says in
         record {
           spelled = behind_follows (codes "submit 0 put 0/") line words found ∙ ap (λ rest. codes "submit 0 put 0/" ++ rest) parts.0
-            ∙ grouped name value;
+              ∙ grouped name value;
           named = parts.1;
-          fits = parts.2
+          fits = parts.2;
         }
     of_asked (flowed word found says) = let other = flow_is_no_other word (Put name value) says in absurd (put_no_flow name value other.0 other.1)
 
@@ -195,7 +195,7 @@ flow_of_line line times read = of_asked (line_asked line (Flow times) (λ same. 
         let parts = flow_spelled word times says in
         record {
           spelled = behind_follows (codes "flow ") line word found ∙ ap (λ rest. codes "flow " ++ rest) parts.0;
-          fits = parts.1
+          fits = parts.1;
         }
 
 line_of_put : (line name : List ℕ) (value : ℕ) → IsPutLine line name value → line_of line ≡ Some (Put name value)
@@ -213,6 +213,7 @@ skip_of_line line read = of_test (is_skipped line) read
     of_asked : Asked (behind (codes "submit 0 put 0/") line) (behind (codes "flow ") line) Skip → ⊥
     of_asked (put words found says) = let other = put_is_no_other words Skip says in skip_no_put other.0 other.1 other.2
     of_asked (flowed word found says) = let other = flow_is_no_other word Skip says in skip_no_flow other.0 other.1
+
     of_test : (test : Bool) → cond test (Some Skip) (asked_by line) ≡ Some Skip → IsTrue test
     of_test true read = refl
     of_test false read = absurd (of_asked (asked_how (behind (codes "submit 0 put 0/") line) (behind (codes "flow ") line) Skip read))
@@ -226,5 +227,5 @@ pub read_as_spelled : (line : List ℕ) → IsReadAsSpelled line
 read_as_spelled line = record {
   skips = (skip_of_line line, line_of_skip line);
   puts = λ name value. (put_of_line line name value, line_of_put line name value);
-  flows = λ times. (flow_of_line line times, line_of_flow line times)
+  flows = λ times. (flow_of_line line times, line_of_flow line times);
 }

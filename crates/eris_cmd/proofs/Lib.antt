@@ -3,3 +3,4 @@ pub mod FormLemmas
 pub mod LineCuts
 pub mod LineRuns
 pub mod Runs
+pub mod ScriptExamples

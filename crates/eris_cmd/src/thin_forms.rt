@@ -5,5 +5,4 @@ ghost use Rattle.eris_cmd.specs.ThinForms.{IsReadAsSpelled};
 /// `submit 0 put 0/NAME N`, or as `flow N`. The call does nothing; its contract is the law.
 pub fn every_line_is_read_as_spelled()
     ensures { (line : List ℕ) → IsReadAsSpelled line }
-{
-}
+{}
