@@ -1,17 +1,14 @@
 -- From what is due to what the top call promises.
-use Rattle.std.proofs.Common.{◌≡◌, ◌↔◌, ℕ, ◌<◌, ◌≤◌, Bool, true, false, cond, nat_lt, MatchBool, IsTrue, bytes_eq, codes, Option, Result, Ok, Err, List, [], ◌∷◌, length, get_or, ap, sym, ◌∙◌, subst, refl, arith, map}
+use Rattle.std.proofs.Common.{◌≡◌, ◌↔◌, ℕ, ◌≤◌, Bool, true, false, cond, nat_lt, MatchBool, IsTrue, bytes_eq, Option, Result, Ok, Err, List, [], ◌∷◌, length, get_or, ap, sym, ◌∙◌, subst, refl, arith, map}
 use Rattle.std.specs.Io.KnownBytes.{Appends}
 use Rattle.std.proofs.lemmas.Bool.Decides.{nat_tests}
 use Rattle.std.proofs.lemmas.Slice.Eq.{bytes_eq-Decides}
-use Rattle.eris_script.specs.ReportText.{report_text}
 use Rattle.eris_world.specs.declared.thin_event.Event.{Event}
 use Rattle.eris_world.specs.ThinOrder.{Good}
-use Rattle.eris_world.specs.ThinReport.{report_of}
 use Rattle.eris_world.specs.ThinWorld.{WorldState, run}
 use Rattle.eris_cmd.specs.declared.due.Due.{Due}
-use Rattle.eris_cmd.specs.declared.status.Status.{Status}
 use Rattle.eris_cmd.specs.declared.status.Status.TheVariants.{Done, TooLarge}
-use Rattle.eris_cmd.specs.Calls.{input_limit, Comes, IsAnswerTo, IsTextDue, status_for, status_due, ReportsRun}
+use Rattle.eris_cmd.specs.Calls.{input_limit, Comes, IsAnswerTo, status_for, ReportsRun}
 use Rattle.eris_cmd.specs.Dues.{IsDue}
 use Rattle.eris_cmd.specs.Texts.{too_large_text}
 use Rattle.eris_cmd.specs.ThinScript.{BadLine, script}

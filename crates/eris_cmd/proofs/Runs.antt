@@ -6,7 +6,7 @@ use Rattle.eris_world.specs.declared.thin_event.Event.TheVariants.{Flow}
 use Rattle.eris_world.specs.declared.thin_refusal.Refusal.{Refusal}
 use Rattle.eris_world.specs.ThinKept.{KeptWorld}
 use Rattle.eris_world.specs.ThinWaiting.{first_of}
-use Rattle.eris_world.specs.ThinWorld.{WorldState, after, run_from, waiting, flowed, flowed_by}
+use Rattle.eris_world.specs.ThinWorld.{WorldState, after, run_from, waiting, flowed_by}
 use Rattle.eris_cmd.specs.ThinRuns.{Takes}
 
 append_after : (first : Result WorldState Refusal) (v : WorldState) (xs ys : List Event)

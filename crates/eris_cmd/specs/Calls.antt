@@ -1,6 +1,6 @@
 -- What the top call reads, answers and writes. In the records below `left` and `left'` are the bytes that the source has still
 -- to give, as the call begins and as it returns, and `taken` and `taken'` those that the sink has taken, where they are known.
-use Rattle.std.specs.Prelude.{◌≡◌, ℕ, ◌+◌, ◌<◌, ◌≤◌, ⊤, nat_lt, MatchBool, Option, Result, Ok, Err, List, length, if◌then◌else◌}
+use Rattle.std.specs.Prelude.{◌≡◌, ℕ, ◌+◌, ◌≤◌, ⊤, nat_lt, MatchBool, Option, Result, Ok, Err, List, length, if◌then◌else◌}
 use Rattle.std.specs.Io.KnownBytes.{Consumes, IsAtEnd, Appends}
 use Rattle.eris_base.specs.Transfers.{ReadsToEnd, ReadsPast, TakesFront}
 use Rattle.eris_script.specs.declared.reason.Reason.{Reason}

@@ -3,6 +3,7 @@ pub mod Calls
 pub mod Dues
 pub mod Statuses
 pub mod Texts
+pub mod ThinForms
 pub mod ThinLines
 pub mod ThinRuns
 pub mod ThinScript

@@ -1,10 +1,9 @@
 -- How the events of a script take a world on.
-use Rattle.std.specs.Prelude.{◌≡◌, ℕ, ◌+◌, ◌≤◌, ⊤, false, Option, Some, None, List, length, Ok}
+use Rattle.std.specs.Prelude.{◌≡◌, ℕ, ◌+◌, ◌≤◌, ⊤, false, Some, None, List, length, Ok}
 use Rattle.eris_script.specs.declared.reason.Reason.{Reason}
 use Rattle.eris_script.specs.declared.reason.Reason.TheVariants.{Word}
 use Rattle.eris_world.specs.declared.thin_event.Event.{Event}
 use Rattle.eris_world.specs.ThinKept.{KeptWorld}
-use Rattle.eris_world.specs.ThinOrder.{Good}
 use Rattle.eris_world.specs.ThinWorld.{run, run_from}
 use Rattle.eris_cmd.specs.declared.thin_run.Stop.{Stop}
 use Rattle.eris_cmd.specs.declared.thin_run.Stop.TheVariants as stop

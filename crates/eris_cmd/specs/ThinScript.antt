@@ -1,5 +1,5 @@
 -- What the bytes of a script ask of the world, or the first line that is refused.
-use Rattle.std.specs.Prelude.{ℕ, ◌+◌, ◌==◌, Option, Some, None, Result, Ok, Err, List, [], ◌∷◌, ◌++◌, map, replicate, bytes_eq, codes, if◌then◌else◌}
+use Rattle.std.specs.Prelude.{ℕ, ◌+◌, ◌==◌, Some, None, Result, Ok, Err, List, [], ◌∷◌, ◌++◌, map, replicate, bytes_eq, codes, if◌then◌else◌}
 use Rattle.std.specs.List.{onto_first}
 use Rattle.std.specs.Str.Lines.{strip_carriage_return}
 use Rattle.eris_txn.specs.declared.op.Op.TheVariants as op

@@ -11,8 +11,10 @@ mod telling;
 #[cfg(test)]
 mod tests;
 mod texts;
+mod thin_forms;
 mod thin_line;
 mod thin_run;
 
 pub use call::eris_call;
 pub use status::Status;
+pub use thin_forms::every_line_is_read_as_spelled;
