@@ -260,7 +260,7 @@ module _ (E : TxnId → Type 0) (kind : TxnId → Bool) where
           by_rule (inl h) = h
           by_rule (inr h) =
               absurd
-              (both_ways _ new (subst (λ (concludes_it : Phase). is_decided (state.recorded packet.id concludes_it) ≡ true) (sym (prelim_phase packet.body r)) h))
+              (both_ways _ new (subst (λ (phase : Phase). is_decided (state.recorded packet.id phase) ≡ true) (sym (prelim_phase packet.body r)) h))
 
       shut : (is_prelim packet.body && is_decided (state.decided packet.id)) ≡ true → E packet.id
       shut test =
@@ -342,7 +342,7 @@ module _ (E : TxnId → Type 0) (kind : TxnId → Bool) where
       found o r d id t =
           let parts = and_parts (same_id id packet.id) (is_prelim packet.body) t in
           subst (λ (that_id : TxnId). is_decided (state.recorded that_id Phase.Prelim) ≡ true) (sym (same_id-true id packet.id parts.0))
-          (subst (λ (concludes_it : Phase). is_decided (state.recorded packet.id concludes_it) ≡ true) (prelim_phase packet.body parts.1) (ap is_decided r ∙ d))
+          (subst (λ (phase : Phase). is_decided (state.recorded packet.id phase) ≡ true) (prelim_phase packet.body parts.1) (ap is_decided r ∙ d))
 
       queued : waits packet.id state.waiting ≡ true → (id : TxnId) → is_prelim_of id packet ≡ true
           → list_any (is_prelim_of id) state.waiting ≡ true

@@ -16,6 +16,7 @@ mod SaidFrom
 mod Early
 mod Apart
 mod Ended
+mod Unrecorded
 mod Lost
 mod Once
 mod InTime

@@ -1,4 +1,4 @@
-ghost use Rattle.std.specs.Prelude.{◌≡◌, ℕ, Option, List, [], ◌∷◌, ◌++◌};
+ghost use Rattle.std.specs.Prelude.{◌≡◌, ℕ, Option, None, List, [], ◌∷◌, ◌++◌};
 ghost use Rattle.eris_base.specs.declared.ids.Phase.{Phase};
 ghost use Rattle.eris_base.specs.declared.ids.TxnId.{TxnId};
 ghost use Rattle.eris_txn.specs.declared.answer.Answer.{Answer};
@@ -24,11 +24,12 @@ pub fn answers_as_if_alone()
 
 /// Over every list of packets: what a store says of a whole or a preliminary transaction, or of an
 /// outcome, is of a packet of that phase that came; where it said values for an id anywhere in the list, the
-/// id's first conclusory packet finds the preliminary holding; and the plain run answers no id twice, and
-/// none by `Aborted`. The call does nothing; its contract is the law.
+/// id's first conclusory packet finds the preliminary holding; no conclusion is recorded, since an outcome is
+/// decided; and the plain run answers no id twice, and none by `Aborted`. The call does nothing; its contract is the law.
 pub fn says_what_came()
     ensures came { (packets : List ShardPacket) (id : TxnId) (phase : Phase) (answer : Answer) → Said id phase answer (run_dones empty packets) → HasPacket id phase packets }
     ensures finds { (before rest : List ShardPacket) (conclusory : ShardPacket) (values : List (Option ℕ)) → phase_of conclusory.body ≡ Phase.Conclude → Said conclusory.id Phase.Prelim (Answer.Values values) (run_dones empty (before ++ conclusory ∷ rest)) → HoldsOrDecided (run_state empty before) conclusory.id }
+    ensures unrecorded { (packets : List ShardPacket) (id : TxnId) → (run_state empty packets).recorded id Phase.Conclude ≡ None }
     ensures once { (packets : List ShardPacket) → EachIdOnce (plain_answers packets) }
     ensures one_answer { (packets : List ShardPacket) (id : TxnId) (some other : Answer) → IsPlain packets id some → IsPlain packets id other → some ≡ other }
     ensures never_aborted { (packets : List ShardPacket) (id : TxnId) → IsPlain packets id Answer.Aborted → ⊥ }
