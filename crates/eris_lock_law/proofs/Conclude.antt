@@ -6,7 +6,7 @@ use Rattle.eris_base.specs.declared.ids.TxnId.{TxnId}
 use Rattle.eris_lock_law.proofs.Act.{any_holding_in, fit_noted, lawful_of}
 use Rattle.eris_lock_law.proofs.Arrive.{Next, fit_rest, phase_is}
 use Rattle.eris_lock_law.proofs.Each.{Each-append, Each-left, Each-right, Each-weaker, Each-with}
-use Rattle.eris_lock_law.proofs.Fit.{Distinct, EntryFit, Fit, Good, Plain, Point, distinct_changed, entry_of, has_id_changed, holder_of, holding_in, is_holding, is_known, is_waiting, known_here, logged_answers, logged_answers_changed, logged_noted, reached, reached_changed, ruled_noted, sound_noted, waiting_in, waiting_in-append}
+use Rattle.eris_lock_law.proofs.Fit.{Distinct, EntryFit, Fit, Good, Plain, Point, distinct_changed, entry_of, has_id_changed, holder_of, holding_in, is_holding, is_known, is_waiting, known_here, logged_answers, logged_answers_changed, logged_noted, reached_changed, ruled_noted, sound_noted, waiting_in, waiting_in-append}
 use Rattle.eris_lock_law.proofs.Ids.{same_id-from, same_id-true, same_id-turned}
 use Rattle.eris_lock_law.proofs.Keys.{modes_conflict, put_on, written_at}
 use Rattle.eris_lock_law.proofs.Log.{Complete, Entry, Holds, Lawful, Status, Void, Waits, current, current-append, is_open, left_at, left_in_place, with_status}

@@ -5,7 +5,7 @@ use Rattle.eris_base.specs.declared.ids.TxnId.{TxnId}
 use Rattle.eris_lock_law.proofs.Arrive.{Next, arrive_right}
 use Rattle.eris_lock_law.proofs.Conclude.{conclude_right}
 use Rattle.eris_lock_law.proofs.Each.{Each-append}
-use Rattle.eris_lock_law.proofs.Fit.{Fit, Plain, reached, waiting_in}
+use Rattle.eris_lock_law.proofs.Fit.{Fit, Plain, waiting_in}
 use Rattle.eris_lock_law.proofs.Keys.{on_key_kept, put_on_kept}
 use Rattle.eris_lock_law.proofs.Log.{Entry}
 use Rattle.eris_lock_law.proofs.Release.{GoodDone}
