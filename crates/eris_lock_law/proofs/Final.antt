@@ -41,7 +41,7 @@ done_right packets Phase.Prelim id answer (inl h) e said =
 done_right packets Phase.Prelim id answer (inr h) e said = inr (record { is = h.0; outcome = h.1; ended = e refl h.0 })
 done_right packets Phase.Conclude id answer h e said = h
 
-all_said : (dones : List Done) → Each (λ given. Said given.id given.phase given.answer dones) dones
+pub all_said : (dones : List Done) → Each (λ given. Said given.id given.phase given.answer dones) dones
 all_said [] = tt
 all_said (given ∷ dones) = (
   inl (refl, refl, refl),

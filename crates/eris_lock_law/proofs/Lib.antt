@@ -21,4 +21,5 @@ mod Lost
 mod Once
 mod InTime
 mod Final
+mod InPart
 mod Fits

@@ -37,18 +37,22 @@ and_no true = refl
 and_no false = refl
 
 -- an answer of another phase is noted
-none_noted : (recorded : TxnId → Phase → Option Answer) (id : TxnId) (phase : Phase) (answer : Answer) → same_phase phase Phase.Conclude ≡ false
-    → ((other : TxnId) → recorded other Phase.Conclude ≡ None) → (other : TxnId) → note recorded id phase answer other Phase.Conclude ≡ None
+none_noted : (recorded : TxnId → Phase → Option Answer) (id : TxnId) (phase : Phase) (answer : Answer)
+    → same_phase phase Phase.Conclude ≡ false
+    → ((other : TxnId) → recorded other Phase.Conclude ≡ None) → (other : TxnId)
+    → note recorded id phase answer other Phase.Conclude ≡ None
 none_noted recorded id phase answer apart none other =
     cond-false (same_id id other && same_phase phase Phase.Conclude) (Some answer) (recorded other Phase.Conclude)
     (ap (λ t. same_id id other && t) apart ∙ and_no (same_id id other)) ∙ none other
 
-executed : (state : StoreState) (packet : ShardPacket) → is_conclusory packet.body ≡ false → ((id : TxnId) → state.recorded id Phase.Conclude ≡ None)
+executed : (state : StoreState) (packet : ShardPacket) → is_conclusory packet.body ≡ false
+    → ((id : TxnId) → state.recorded id Phase.Conclude ≡ None)
     → (id : TxnId) → (execute state packet).recorded id Phase.Conclude ≡ None
 executed state packet plain none =
     none_noted state.recorded packet.id (phase_of packet.body) (answer_of packet.body state.values) (not_conclusion packet.body plain) none
 
-releases : (at : Place) (state : StoreState) (before packets : List ShardPacket) → ((id : TxnId) → state.recorded id Phase.Conclude ≡ None)
+releases : (at : Place) (state : StoreState) (before packets : List ShardPacket)
+    → ((id : TxnId) → state.recorded id Phase.Conclude ≡ None)
     → Each (λ waiter. is_conclusory waiter.body ≡ false) before → Each (λ waiter. is_conclusory waiter.body ≡ false) packets
     → UnrecordedStep (release at state before packets)
 releases at state before [] none stays more = record { none = none; plain = stays }
@@ -56,7 +60,8 @@ releases at state before (packet ∷ packets) none stays more = by_test (blocked
     (releases at state (before ++ packet ∷ []) packets none (Each-append _ before (packet ∷ []) stays (more.0, tt)) more.1)
     (releases at (execute state packet) before packets (executed state packet more.0 none) stays more.1)
   where
-    by_test : (t : Bool) → UnrecordedStep (release at state (before ++ packet ∷ []) packets) → UnrecordedStep (release at (execute state packet) before packets)
+    by_test : (t : Bool) → UnrecordedStep (release at state (before ++ packet ∷ []) packets)
+        → UnrecordedStep (release at (execute state packet) before packets)
         → UnrecordedStep (elim t [
           | true ↦ release at state (before ++ packet ∷ []) packets
           | false ↦ also (done at packet (answer_of packet.body state.values) true) (release at (execute state packet) before packets)
@@ -64,7 +69,8 @@ releases at state before (packet ∷ packets) none stays more = by_test (blocked
     by_test true kept goes = kept
     by_test false kept goes = record { none = goes.none; plain = goes.plain }
 
-arrives : (state : StoreState) (packet : ShardPacket) → is_conclusory packet.body ≡ false → Unrecorded state state.waiting → UnrecordedStep (arrive state packet)
+arrives : (state : StoreState) (packet : ShardPacket) → is_conclusory packet.body ≡ false → Unrecorded state state.waiting
+    → UnrecordedStep (arrive state packet)
 arrives state packet plain kept = by_tests (state.recorded packet.id (phase_of packet.body)) (waits packet.id state.waiting)
     (is_prelim packet.body && is_decided (state.decided packet.id)) (blocked state.holding state.waiting (locks_of packet.body))
   where
@@ -85,12 +91,16 @@ arrives state packet plain kept = by_tests (state.recorded packet.id (phase_of p
     ])
     by_tests (Some answer) t u v = kept
     by_tests None true u v = kept
-    by_tests None false true v = record { none = none_noted state.recorded packet.id (phase_of packet.body) Aborted (not_conclusion packet.body plain) kept.none; plain = kept.plain }
-    by_tests None false false true = record { none = kept.none; plain = Each-append _ state.waiting (packet ∷ []) kept.plain (plain, tt) }
+    by_tests None false true v =
+        record { none = none_noted state.recorded packet.id (phase_of packet.body) Aborted (not_conclusion packet.body plain) kept.none; plain = kept.plain }
+    by_tests None false false true =
+        record { none = kept.none; plain = Each-append _ state.waiting (packet ∷ []) kept.plain (plain, tt) }
     by_tests None false false false = record { none = executed state packet plain kept.none; plain = kept.plain }
 
-concludes : (state : StoreState) (packet : ShardPacket) (outcome : Answer) (writes : List Write) → Unrecorded state state.waiting → UnrecordedStep (conclude state packet outcome writes)
-concludes state packet outcome writes kept = by_decided (state.decided packet.id) (holds packet.id state.holding) (list_any (is_prelim_of packet.id) state.waiting)
+concludes : (state : StoreState) (packet : ShardPacket) (outcome : Answer) (writes : List Write) → Unrecorded state state.waiting
+    → UnrecordedStep (conclude state packet outcome writes)
+concludes state packet outcome writes kept =
+    by_decided (state.decided packet.id) (holds packet.id state.holding) (list_any (is_prelim_of packet.id) state.waiting)
   where
     by_decided : (found : Option Answer) (t u : Bool) → UnrecordedStep (elim found [
       | Some decided ↦ only state (done packet.at packet decided false)
@@ -110,15 +120,18 @@ concludes state packet outcome writes kept = by_decided (state.decided packet.id
         (none_noted state.recorded packet.id Phase.Prelim Aborted refl kept.none) tt (Each-filter _ (λ waiter. not (is_prelim_of packet.id waiter)) state.waiting kept.plain)
     by_decided None false false = record { none = kept.none; plain = kept.plain }
 
-steps : (body : Body) (state : StoreState) (packet : ShardPacket) → packet.body ≡ body → Unrecorded state state.waiting → UnrecordedStep (step_by body state packet)
+steps : (body : Body) (state : StoreState) (packet : ShardPacket) → packet.body ≡ body → Unrecorded state state.waiting
+    → UnrecordedStep (step_by body state packet)
 steps (Independent ops) state packet is kept = arrives state packet (ap is_conclusory is) kept
 steps (Prelim locks) state packet is kept = arrives state packet (ap is_conclusory is) kept
 steps (Commit keys writes) state packet is kept = concludes state packet Committed writes kept
 steps (Abort keys) state packet is kept = concludes state packet Aborted [] kept
 
-unrecorded_run : (packets : List ShardPacket) (state : StoreState) → Unrecorded state state.waiting → Unrecorded (run_state state packets) (run_state state packets).waiting
+unrecorded_run : (packets : List ShardPacket) (state : StoreState) → Unrecorded state state.waiting
+    → Unrecorded (run_state state packets) (run_state state packets).waiting
 unrecorded_run [] state kept = kept
-unrecorded_run (packet ∷ packets) state kept = unrecorded_run packets (step state packet).state (steps packet.body state packet refl kept)
+unrecorded_run (packet ∷ packets) state kept =
+    unrecorded_run packets (step state packet).state (steps packet.body state packet refl kept)
 
 -- NO CONCLUSION IS RECORDED
 pub conclusion_unrecorded : (packets : List ShardPacket) (id : TxnId) → (run_state empty packets).recorded id Phase.Conclude ≡ None

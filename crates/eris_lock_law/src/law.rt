@@ -11,12 +11,14 @@ ghost use Rattle.eris_locks.specs.States.{phase_of, empty};
 ghost use Rattle.eris_locks.specs.WellFormed.{WellFormed};
 
 /// Over every well-formed list of packets a shard's store answers as the plain run does, in which there
-/// is no lock and no waiting, and so does a store that ran only a beginning of the list. Where no
-/// preliminary holds, nothing waits, and the values are those of the plain run. The call does nothing;
+/// is no lock and no waiting, and so does a store that ran only a beginning of the list. Values
+/// that are said over the whole list are said over a beginning that has a conclusory packet of the id. Where
+/// no preliminary holds, nothing waits, and the values are those of the plain run. The call does nothing;
 /// its contract is the law.
 pub fn answers_as_if_alone()
     ensures answers { (packets : List ShardPacket) → WellFormed packets → Each (IsRightDone packets) (run_dones empty packets) }
     ensures beginning { (packets rest : List ShardPacket) → WellFormed (packets ++ rest) → Each (IsRightDone (packets ++ rest)) (run_dones empty packets) }
+    ensures said_in_time { (packets rest : List ShardPacket) (id : TxnId) (values : List (Option ℕ)) → WellFormed (packets ++ rest) → HasPacket id Phase.Conclude packets → Said id Phase.Prelim (Answer.Values values) (run_dones empty (packets ++ rest)) → Said id Phase.Prelim (Answer.Values values) (run_dones empty packets) }
     ensures nothing_waits { (packets : List ShardPacket) → (run_state empty packets).holding ≡ [] → (run_state empty packets).waiting ≡ [] }
     ensures values { (packets : List ShardPacket) → WellFormed packets → (run_state empty packets).holding ≡ [] → (run_state empty packets).values ≡ plain_end packets }
     ensures modes { IsConflict conflict }
