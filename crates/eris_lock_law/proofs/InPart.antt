@@ -14,17 +14,16 @@ use Rattle.eris_lock_law.proofs.Runs.{dones_of_prefix}
 use Rattle.eris_lock_law.proofs.SaidFrom.{fewer, ran}
 use Rattle.eris_locks.specs.Each.{Each}
 use Rattle.eris_locks.specs.Law.{HasPacket, HoldsOrDecided, IsRight, IsRightDone, Said, StandsIn}
-use Rattle.eris_locks.specs.LockTable.{Stepped, aborted_late, all_also, also, answer_of, arrive, arrive_new, conclude, conclude_first, done, execute, holding_after, only, release, run_dones, run_state, step, step_by}
+use Rattle.eris_locks.specs.LockTable.{Stepped, aborted_late, all_also, also, answer_of, arrive, arrive_new, conclude, conclude_first, done, end_holding, end_waiting, execute, holding_after, only, release, run_dones, run_state, step, step_by}
 use Rattle.eris_locks.specs.Locks.{locks_of}
 use Rattle.eris_locks.specs.ShardRun.{plain_run}
-use Rattle.eris_locks.specs.States.{StoreState, blocked, decide, empty, holds, is_decided, is_prelim, is_prelim_of, no_longer_holding, no_longer_waiting, note, phase_of, same_phase, waits}
+use Rattle.eris_locks.specs.States.{StoreState, blocked, decide, empty, holds, is_decided, is_prelim, is_prelim_of, no_longer_waiting, note, phase_of, same_phase, waits}
 use Rattle.eris_locks.specs.TxnIds.{same_id}
 use Rattle.eris_locks.specs.WellFormed.{WellFormed}
 use Rattle.eris_locks.specs.declared.done.Done.{Done}
 use Rattle.eris_locks.specs.declared.held.Held.{Held}
 use Rattle.eris_locks.specs.declared.shard_packet.ShardPacket.{ShardPacket}
 use Rattle.eris_txn.specs.Keys.{Values, no_values}
-use Rattle.eris_txn.specs.Plans.{written}
 use Rattle.eris_txn.specs.declared.answer.Answer.{Answer}
 use Rattle.eris_txn.specs.declared.answer.Answer.TheVariants.{Aborted, Committed}
 use Rattle.eris_txn.specs.declared.body.Body.{Body}
@@ -63,7 +62,7 @@ module _ (D : TxnId → Phase → Answer → Type 0) where
   held_said id (Independent ops) values holding h g i e = g i e
   held_said id (Prelim locks) values holding h g i e =
       by_place
-        (or_cases (holds i holding) (holds i (record { id = id; locks = locks } ∷ [])) (sym (list_any-append (λ (held : Held). same_id i held.id) holding (record { id = id; locks = locks } ∷ [])) ∙ e))
+      (or_cases (holds i holding) (holds i (record { id = id; locks = locks } ∷ [])) (sym (list_any-append (λ (held : Held). same_id i held.id) holding (record { id = id; locks = locks } ∷ [])) ∙ e))
     where
       last : ((same_id i id ≡ true) ⊎ (false ≡ true)) → (read : List (Option ℕ)) × D i Phase.Prelim (Answer.Values read)
       last (inl q) =
@@ -89,7 +88,7 @@ module _ (D : TxnId → Phase → Answer → Type 0) where
   releases at state before [] r = λ d. record { recorded = r.recorded; held = r.held }
   releases at state before (packet ∷ packets) r =
       by_test (blocked state.holding before (locks_of packet.body)) (releases at state (before ++ packet ∷ []) packets r)
-        (λ k. releases at (execute state packet) before packets k)
+      (λ k. releases at (execute state packet) before packets k)
     where
       by_test : (test : Bool)
           → (Each OfDone (release at state (before ++ packet ∷ []) packets).dones → WasSaid (release at state (before ++ packet ∷ []) packets).state)
@@ -109,7 +108,7 @@ module _ (D : TxnId → Phase → Answer → Type 0) where
       → WasSaid (arrive_new state packet).state
   arrives_new state packet r =
       by_test (is_prelim packet.body && is_decided (state.decided packet.id))
-        (blocked state.holding state.waiting (locks_of packet.body))
+      (blocked state.holding state.waiting (locks_of packet.body))
     where
       by_test : (test other_test : Bool) → Each OfDone (elim test as (λ b. Stepped) [
         | true ↦ only (record state { recorded = note state.recorded packet.id (phase_of packet.body) Aborted }) (done packet.at packet Aborted false)
@@ -146,19 +145,11 @@ module _ (D : TxnId → Phase → Answer → Type 0) where
       by_record None true d = r
       by_record None false d = arrives_new state packet r d
 
-  abbrev after_commit : StoreState → ShardPacket → Answer → List Write → StoreState
-  after_commit state packet outcome writes =
-      record { values = written writes state.values; recorded = state.recorded; decided = decide state.decided packet.id outcome; holding = no_longer_holding packet.id state.holding; waiting = [] }
-
-  abbrev after_wait : StoreState → ShardPacket → StoreState
-  after_wait state packet =
-      record { values = state.values; recorded = note state.recorded packet.id Phase.Prelim Aborted; decided = decide state.decided packet.id Aborted; holding = state.holding; waiting = [] }
-
   abbrev first_by : StoreState → ShardPacket → Answer → List Write → Bool → Bool → Stepped
   first_by state packet outcome writes test other_test = elim test [
-    | true ↦ also (done packet.at packet outcome false) (release packet.at (after_commit state packet outcome writes) [] state.waiting)
+    | true ↦ also (done packet.at packet outcome false) (release packet.at (end_holding state packet outcome writes) [] state.waiting)
     | false ↦ elim other_test [
-      | true ↦ also (done packet.at packet Aborted false) (all_also (aborted_late packet.at packet.id state.waiting) (release packet.at (after_wait state packet) [] (no_longer_waiting packet.id state.waiting)))
+      | true ↦ also (done packet.at packet Aborted false) (all_also (aborted_late packet.at packet.id state.waiting) (release packet.at (end_waiting state packet) [] (no_longer_waiting packet.id state.waiting)))
       | false ↦ only (record state { decided = decide state.decided packet.id Aborted }) (done packet.at packet Aborted false)
     ]
   ]
@@ -169,7 +160,7 @@ module _ (D : TxnId → Phase → Answer → Type 0) where
   aborted_said at id [] h d = absurd (both_ways _ refl h)
   aborted_said at id (waiter ∷ waiters) h d =
       by_test (is_prelim_of id waiter) refl (or_cases (is_prelim_of id waiter) (list_any (is_prelim_of id) waiters) h) d
-        (aborted_said at id waiters)
+      (aborted_said at id waiters)
     where
       by_test : (test : Bool) → is_prelim_of id waiter ≡ test
           → ((is_prelim_of id waiter ≡ true) ⊎ (list_any (is_prelim_of id) waiters ≡ true))
@@ -191,13 +182,13 @@ module _ (D : TxnId → Phase → Answer → Type 0) where
           → Each OfDone (first_by state packet outcome writes test other_test).dones
           → WasSaid (first_by state packet outcome writes test other_test).state
       by_test true other_test e d =
-          releases packet.at (after_commit state packet outcome writes) [] state.waiting
-            (record { recorded = r.recorded; held = λ i k. r.held i (fewer i packet.id state.holding k) }) d.1
+          releases packet.at (end_holding state packet outcome writes) [] state.waiting
+          (record { recorded = r.recorded; held = λ i k. r.held i (fewer i packet.id state.holding k) }) d.1
       by_test false true e d =
-          let front = Each-left OfDone (aborted_late packet.at packet.id state.waiting) (release packet.at (after_wait state packet) [] (no_longer_waiting packet.id state.waiting)).dones d.1 in
-          releases packet.at (after_wait state packet) [] (no_longer_waiting packet.id state.waiting)
+          let front = Each-left OfDone (aborted_late packet.at packet.id state.waiting) (release packet.at (end_waiting state packet) [] (no_longer_waiting packet.id state.waiting)).dones d.1 in
+          releases packet.at (end_waiting state packet) [] (no_longer_waiting packet.id state.waiting)
           (record { recorded = noted_said state.recorded packet.id Phase.Prelim Aborted r.recorded (aborted_said packet.at packet.id state.waiting e front); held = r.held })
-          (Each-right OfDone (aborted_late packet.at packet.id state.waiting) (release packet.at (after_wait state packet) [] (no_longer_waiting packet.id state.waiting)).dones d.1)
+          (Each-right OfDone (aborted_late packet.at packet.id state.waiting) (release packet.at (end_waiting state packet) [] (no_longer_waiting packet.id state.waiting)).dones d.1)
       by_test false false e d = record { recorded = r.recorded; held = r.held }
 
   concludes : (state : StoreState) (packet : ShardPacket) (outcome : Answer) (writes : List Write) → WasSaid state
@@ -226,8 +217,8 @@ module _ (D : TxnId → Phase → Answer → Type 0) where
   run_said [] state r d = r
   run_said (packet ∷ packets) state r d =
       run_said packets (step state packet).state
-        (steps_by packet.body state packet r (Each-left OfDone (step state packet).dones (run_dones (step state packet).state packets) d))
-        (Each-right OfDone (step state packet).dones (run_dones (step state packet).state packets) d)
+      (steps_by packet.body state packet r (Each-left OfDone (step state packet).dones (run_dones (step state packet).state packets) d))
+      (Each-right OfDone (step state packet).dones (run_dones (step state packet).state packets) d)
 
   pub empty_said : WasSaid empty
   empty_said = record { recorded = λ i q answer e. absurd (clash answer e); held = λ i e. absurd (both_ways _ refl e) }
@@ -238,7 +229,7 @@ module _ (D : TxnId → Phase → Answer → Type 0) where
 front_said : (packets : List ShardPacket) → WasSaid (λ i q a. Said i q a (run_dones empty packets)) (run_state empty packets)
 front_said packets =
     run_said (λ i q a. Said i q a (run_dones empty packets)) packets empty
-      (empty_said (λ i q a. Said i q a (run_dones empty packets))) (all_said (run_dones empty packets))
+    (empty_said (λ i q a. Said i q a (run_dones empty packets))) (all_said (run_dones empty packets))
 
 -- the first conclusory of an id
 pub record FirstConcluded (id : TxnId) (packets : List ShardPacket) : Type 0 where
@@ -271,7 +262,7 @@ first_concluded id (packet ∷ packets) h =
         record { before = []; here = packet; after = packets; splits = refl; same = sym (same_id-true id packet.id parts.0); concludes = phase_from_test packet.body parts.1; none = λ z. z }
     by_test (inr n) (inl k) ih =
         absurd
-          (both_ways _ n (and_from (same_id id packet.id) (same_phase Phase.Conclude (phase_of packet.body)) (same_id-from id packet.id (sym k.0)) (same_self (phase_of packet.body) k.1)))
+        (both_ways _ n (and_from (same_id id packet.id) (same_phase Phase.Conclude (phase_of packet.body)) (same_id-from id packet.id (sym k.0)) (same_self (phase_of packet.body) k.1)))
     by_test (inr n) (inr k) ih =
         let r = ih k in
         record { before = packet ∷ r.before; here = r.here; after = r.after; splits = ap (λ l. packet ∷ l) r.splits; same = r.same; concludes = r.concludes; none = λ z. more r.before r.none z }
@@ -279,14 +270,14 @@ first_concluded id (packet ∷ packets) h =
         more : (B : List ShardPacket) → (HasPacket id Phase.Conclude B → ⊥) → HasPacket id Phase.Conclude (packet ∷ B) → ⊥
         more B f (inl z) =
             both_ways _ n
-              (and_from (same_id id packet.id) (same_phase Phase.Conclude (phase_of packet.body)) (same_id-from id packet.id (sym z.0)) (same_self (phase_of packet.body) z.1))
+            (and_from (same_id id packet.id) (same_phase Phase.Conclude (phase_of packet.body)) (same_id-from id packet.id (sym z.0)) (same_self (phase_of packet.body) z.1))
         more B f (inr z) = f z
 
 said_more : (id : TxnId) (phase : Phase) (answer : Answer) (packets rest : List ShardPacket)
     → Said id phase answer (run_dones empty packets) → Said id phase answer (run_dones empty (packets ++ rest))
 said_more id phase answer packets rest h =
     subst (λ (dones : List Done). Said id phase answer dones) (sym (dones_of_prefix packets rest empty))
-      (left (run_dones empty packets) (run_dones (run_state empty packets) rest) h)
+    (left (run_dones empty packets) (run_dones (run_state empty packets) rest) h)
   where
     left : (dones others : List Done) → Said id phase answer dones → Said id phase answer (dones ++ others)
     left [] others k = absurd k
@@ -327,7 +318,7 @@ said_in_part id read packets rest well has said = by_first (first_concluded id p
         firm : HoldsOrDecided (run_state empty f.before) id
         firm =
             said_finds id (Answer.Values read) f.before (f.after ++ rest) f.here f.same f.concludes refl
-              (subst (λ (list : List ShardPacket). Said id Phase.Prelim (Answer.Values read) (run_dones empty list)) whole said)
+            (subst (λ (list : List ShardPacket). Said id Phase.Prelim (Answer.Values read) (run_dones empty list)) whole said)
 
         by_held : (xs : List (Option ℕ)) → Said id Phase.Prelim (Answer.Values xs) (run_dones empty f.before)
             → Said id Phase.Prelim (Answer.Values read) (run_dones empty f.before)
