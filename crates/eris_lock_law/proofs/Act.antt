@@ -1,3 +1,4 @@
+-- A packet that isn't blocked is executed, and answers as the plain run does.
 use Rattle.eris_base.specs.declared.ids.ClientId.{ClientId}
 use Rattle.eris_base.specs.declared.ids.Phase.{Phase}
 use Rattle.eris_base.specs.declared.ids.Place.{Place}
@@ -25,7 +26,8 @@ use Rattle.std.proofs.Common.{Bool, List, None, Option, [], ap, false, inl, refl
 use Rattle.std.proofs.lemmas.List.Folds.{list_any-append}
 use Rattle.std.specs.List.{list_any}
 
-pub lawful_of : (kind : TxnId → Bool) (rest : List ShardPacket) (recorded : TxnId → Phase → Option Answer) (decided : TxnId → Option Answer) (entries : List Entry) → Each (EntryFit kind rest recorded decided) entries → AllLawful entries
+pub lawful_of : (kind : TxnId → Bool) (rest : List ShardPacket) (recorded : TxnId → Phase → Option Answer) (decided : TxnId → Option Answer) (entries : List Entry)
+    → Each (EntryFit kind rest recorded decided) entries → AllLawful entries
 lawful_of kind rest recorded decided entries h = Each-weaker _ Lawful (λ e f. f.lawful) entries h
 
 -- an answer more is noted
@@ -65,24 +67,35 @@ module _ (point : Point) (state : StoreState) (earlier : List Entry) (at : Place
   own = (Each-right (EntryFit point.kind point.rest state.recorded state.decided) earlier (it ∷ following) fit.each).0
 
   pub act_answer : answer_of body state.values ≡ answer_of body (reached earlier no_values)
-  act_answer = read_answer earlier at asker id body writes following state.values fit.values lawful_before lawful_after open_apart later_apart
+  act_answer =
+      read_answer earlier at asker id body writes following state.values fit.values lawful_before lawful_after open_apart
+      later_apart
 
   in_table : StandsIn (record { id = id; answer = answer_of body state.values }) point.all.run
   in_table = rw (act_answer, fit.linked) (StandsIn-append_left _ _ _ (logged_answers_has earlier it following no_values))
 
-  act_values : (status : Status) → ((key : Key) → values_after body state.values key ≡ current key (earlier ++ with_status status it ∷ following) None) → InOrder conflict (earlier ++ with_status status it ∷ following)
-      → SameSet (holding_after id body state.holding) (holding_in (earlier ++ with_status status it ∷ following)) → Good point.all (phase_of body) id (answer_of body state.values)
+  act_values : (status : Status)
+      → ((key : Key) → values_after body state.values key ≡ current key (earlier ++ with_status status it ∷ following) None)
+      → InOrder conflict (earlier ++ with_status status it ∷ following)
+      → SameSet (holding_after id body state.holding) (holding_in (earlier ++ with_status status it ∷ following))
+      → Good point.all (phase_of body) id (answer_of body state.values)
       → EntryFit point.kind point.rest (note state.recorded id (phase_of body) (answer_of body state.values)) state.decided (with_status status it)
       → Fit point (execute state it.packet) (earlier ++ with_status status it ∷ following)
   act_values status v o h g e = record {
     values = v;
     order = o;
-    each = Each-changed _ earlier it (with_status status it) following (Each-weaker _ _ (fit_noted point.kind point.rest state.recorded state.decided id (phase_of body) (answer_of body state.values)) (earlier ++ it ∷ following) fit.each) e;
+    each =
+        Each-changed _ earlier it (with_status status it) following
+        (Each-weaker _ _ (fit_noted point.kind point.rest state.recorded state.decided id (phase_of body) (answer_of body state.values)) (earlier ++ it ∷ following) fit.each)
+        e;
     distinct = distinct_changed earlier it following status fit.distinct;
     holding = h;
     sound = sound_noted point.all state.recorded id (phase_of body) (answer_of body state.values) fit.sound g;
-    logged = λ i q k. has_id_changed i earlier it following status ∙ logged_noted state.recorded (phase_of body) (answer_of body state.values) earlier it following fit.logged i q k;
-    linked = fit.linked ∙ ap (λ t. t ++ plain_run point.reached point.seen point.decided point.rest) (sym (logged_answers_changed earlier it following status no_values));
+    logged =
+        λ i q k. has_id_changed i earlier it following status ∙ logged_noted state.recorded (phase_of body) (answer_of body state.values) earlier it following fit.logged i q k;
+    linked =
+        fit.linked
+        ∙ ap (λ t. t ++ plain_run point.reached point.seen point.decided point.rest) (sym (logged_answers_changed earlier it following status no_values));
     reaches = reached_changed earlier it following status no_values ∙ fit.reaches;
     seen_is = λ i. fit.seen_is i ∙ sym (has_id_changed i earlier it following status);
     decided_is = fit.decided_is;
@@ -99,8 +112,11 @@ or_last false true false = refl
 or_last false false true = refl
 or_last false false false = refl
 
-pub any_holding_in : (earlier : List Entry) (entry : Entry) (following : List Entry) (p : Held → Bool) → list_any p (holding_in (earlier ++ entry ∷ following)) ≡ (list_any p (holding_in earlier) || list_any p (holding_in (entry ∷ following)))
-any_holding_in earlier entry following p = ap (list_any p) (holding_in-append earlier (entry ∷ following)) ∙ list_any-append p (holding_in earlier) (holding_in (entry ∷ following))
+pub any_holding_in : (earlier : List Entry) (entry : Entry) (following : List Entry) (p : Held → Bool)
+    → list_any p (holding_in (earlier ++ entry ∷ following)) ≡ (list_any p (holding_in earlier) || list_any p (holding_in (entry ∷ following)))
+any_holding_in earlier entry following p =
+    ap (list_any p) (holding_in-append earlier (entry ∷ following))
+    ∙ list_any-append p (holding_in earlier) (holding_in (entry ∷ following))
 
 -- how an executed one goes on
 abbrev pub acts : Body → Status
@@ -114,7 +130,8 @@ acted at asker id body writes = with_status (acts body) (entry_of at asker id bo
 
 -- ONE THAT ISN'T BLOCKED IS EXECUTED
 pub act : (point : Point) (state : StoreState) (earlier : List Entry) (at : Place) (asker : ClientId) (id : TxnId) (body : Body) (own_writes : List Write) (following : List Entry)
-    → Fit point state (earlier ++ entry_of at asker id body own_writes Waits ∷ following) → blocked state.holding (waiting_in earlier) (locks_of body) ≡ false
+    → Fit point state (earlier ++ entry_of at asker id body own_writes Waits ∷ following)
+    → blocked state.holding (waiting_in earlier) (locks_of body) ≡ false
     → Fit point (execute state (record { at = at; asker = asker; id = id; body = body })) (earlier ++ acted at asker id body own_writes ∷ following)
     × Good point.all (phase_of body) id (answer_of body state.values)
 act point state earlier at asker id (Independent ops) own_writes following fit free =
@@ -163,11 +180,13 @@ act point state earlier at asker id (Prelim ls) own_writes following fit free =
           }),
       inl good,
     )
-act point state earlier at asker id (Commit keys writes) own_writes following fit free = absurd (no (own point state earlier at asker id (Commit keys writes) own_writes following fit free).plain)
+act point state earlier at asker id (Commit keys writes) own_writes following fit free =
+    absurd (no (own point state earlier at asker id (Commit keys writes) own_writes following fit free).plain)
   where
     no : true ≡ false → ⊥
     no e = cc
-act point state earlier at asker id (Abort keys) own_writes following fit free = absurd (no (own point state earlier at asker id (Abort keys) own_writes following fit free).plain)
+act point state earlier at asker id (Abort keys) own_writes following fit free =
+    absurd (no (own point state earlier at asker id (Abort keys) own_writes following fit free).plain)
   where
     no : true ≡ false → ⊥
     no e = cc

@@ -1,3 +1,4 @@
+-- Whatever the list, a preliminary that holds doesn't wait.
 -- No id waits twice
 use Rattle.eris_base.specs.declared.ids.Phase.{Phase}
 use Rattle.eris_base.specs.declared.ids.Place.{Place}
@@ -38,7 +39,8 @@ abbrev pub ApartStep : Stepped → Type 0
 ApartStep stepped = Apart stepped.state stepped.state.waiting
 
 -- one is taken out
-once_without : (before : List ShardPacket) (packet : ShardPacket) (packets : List ShardPacket) → WaitOnce (before ++ packet ∷ packets)
+once_without : (before : List ShardPacket) (packet : ShardPacket) (packets : List ShardPacket)
+    → WaitOnce (before ++ packet ∷ packets)
     → WaitOnce (before ++ packets) × Each (λ waiter. same_id packet.id waiter.id ≡ false) (before ++ packets)
 once_without [] packet packets h = (h.1, h.0)
 once_without (waiter ∷ before) packet packets h =
@@ -57,20 +59,23 @@ once_filtered test (waiter ∷ waiters) h = by_test (test waiter) (once_filtered
     by_test false k = k
 
 -- those of other ids
-others_wait : (id : TxnId) (waiters : List ShardPacket) → waits id waiters ≡ false → Each (λ waiter. same_id id waiter.id ≡ false) waiters
+others_wait : (id : TxnId) (waiters : List ShardPacket) → waits id waiters ≡ false
+    → Each (λ waiter. same_id id waiter.id ≡ false) waiters
 others_wait id [] h = tt
 others_wait id (waiter ∷ waiters) h =
     let parts = or_parts (same_id id waiter.id) (waits id waiters) h in
     (parts.0, others_wait id waiters parts.1)
 
-once_added : (waiters : List ShardPacket) (packet : ShardPacket) → WaitOnce waiters → Each (λ waiter. same_id packet.id waiter.id ≡ false) waiters → WaitOnce (waiters ++ packet ∷ [])
+once_added : (waiters : List ShardPacket) (packet : ShardPacket) → WaitOnce waiters
+    → Each (λ waiter. same_id packet.id waiter.id ≡ false) waiters → WaitOnce (waiters ++ packet ∷ [])
 once_added [] packet h k = (tt, tt)
 once_added (waiter ∷ waiters) packet h k =
     (Each-append _ waiters (packet ∷ []) h.0 (same_id-turned waiter.id packet.id ∙ k.0, tt), once_added waiters packet h.1 k.1)
 
 -- an answer that is noted for another id
 fresh_noted : (recorded : TxnId → Phase → Option Answer) (id : TxnId) (phase : Phase) (answer : Answer) (waiters : List ShardPacket)
-    → Each (λ waiter. is_decided (recorded waiter.id (phase_of waiter.body)) ≡ false) waiters → Each (λ waiter. same_id id waiter.id ≡ false) waiters
+    → Each (λ waiter. is_decided (recorded waiter.id (phase_of waiter.body)) ≡ false) waiters
+    → Each (λ waiter. same_id id waiter.id ≡ false) waiters
     → Each (λ waiter. is_decided (note recorded id phase answer waiter.id (phase_of waiter.body)) ≡ false) waiters
 fresh_noted recorded id phase answer [] h k = tt
 fresh_noted recorded id phase answer (waiter ∷ waiters) h k = (
@@ -85,7 +90,8 @@ prelim_phase_is (Prelim locks) = refl
 prelim_phase_is (Commit keys writes) = refl
 prelim_phase_is (Abort keys) = refl
 
-fresh_filtered : (recorded : TxnId → Phase → Option Answer) (id : TxnId) (waiters : List ShardPacket) → Each (λ waiter. is_decided (recorded waiter.id (phase_of waiter.body)) ≡ false) waiters
+fresh_filtered : (recorded : TxnId → Phase → Option Answer) (id : TxnId) (waiters : List ShardPacket)
+    → Each (λ waiter. is_decided (recorded waiter.id (phase_of waiter.body)) ≡ false) waiters
     → Each (λ waiter. is_decided (note recorded id Phase.Prelim Aborted waiter.id (phase_of waiter.body)) ≡ false) (no_longer_waiting id waiters)
 fresh_filtered recorded id [] h = tt
 fresh_filtered recorded id (waiter ∷ waiters) h = by_test (is_prelim_of id waiter) refl (fresh_filtered recorded id waiters h.1)
@@ -93,12 +99,15 @@ fresh_filtered recorded id (waiter ∷ waiters) h = by_test (is_prelim_of id wai
     apart : is_prelim_of id waiter ≡ false → (same_id id waiter.id && same_phase Phase.Prelim (phase_of waiter.body)) ≡ false
     apart e = ap (λ t. same_id id waiter.id && t) (prelim_phase_is waiter.body) ∙ e
 
-    by_test : (t : Bool) → is_prelim_of id waiter ≡ t → Each (λ w. is_decided (note recorded id Phase.Prelim Aborted w.id (phase_of w.body)) ≡ false) (no_longer_waiting id waiters)
+    by_test : (t : Bool) → is_prelim_of id waiter ≡ t
+        → Each (λ w. is_decided (note recorded id Phase.Prelim Aborted w.id (phase_of w.body)) ≡ false) (no_longer_waiting id waiters)
         → Each (λ w. is_decided (note recorded id Phase.Prelim Aborted w.id (phase_of w.body)) ≡ false) (cond (not t) (waiter ∷ no_longer_waiting id waiters) (no_longer_waiting id waiters))
     by_test true e ih = ih
-    by_test false e ih = (ap is_decided (cond-false _ (Some Aborted) (recorded waiter.id (phase_of waiter.body)) (apart e)) ∙ h.0, ih)
+    by_test false e ih =
+        (ap is_decided (cond-false _ (Some Aborted) (recorded waiter.id (phase_of waiter.body)) (apart e)) ∙ h.0, ih)
 
-executed : (state : StoreState) (before : List ShardPacket) (packet : ShardPacket) (packets : List ShardPacket) → Apart state (before ++ packet ∷ packets) → Apart (execute state packet) (before ++ packets)
+executed : (state : StoreState) (before : List ShardPacket) (packet : ShardPacket) (packets : List ShardPacket)
+    → Apart state (before ++ packet ∷ packets) → Apart (execute state packet) (before ++ packets)
 executed state before packet packets apart =
     let rest = once_without before packet packets apart.once in
     record {
@@ -108,14 +117,17 @@ executed state before packet packets apart =
       once = rest.0;
     }
 
-releases : (at : Place) (state : StoreState) (before packets : List ShardPacket) → Apart state (before ++ packets) → ApartStep (release at state before packets)
-releases at state before [] apart = subst (λ (waiters : List ShardPacket). Apart (record state { waiting = before }) waiters) (append-nil before)
+releases : (at : Place) (state : StoreState) (before packets : List ShardPacket) → Apart state (before ++ packets)
+    → ApartStep (release at state before packets)
+releases at state before [] apart =
+    subst (λ (waiters : List ShardPacket). Apart (record state { waiting = before }) waiters) (append-nil before)
     (record { held = apart.held; fresh = apart.fresh; once = apart.once })
 releases at state before (packet ∷ packets) apart = by_test (blocked state.holding before (locks_of packet.body))
     (releases at state (before ++ packet ∷ []) packets (subst (λ (waiters : List ShardPacket). Apart state waiters) (sym (append_assoc before (packet ∷ []) packets)) apart))
     (releases at (execute state packet) before packets (executed state before packet packets apart))
   where
-    by_test : (t : Bool) → ApartStep (release at state (before ++ packet ∷ []) packets) → ApartStep (release at (execute state packet) before packets)
+    by_test : (t : Bool) → ApartStep (release at state (before ++ packet ∷ []) packets)
+        → ApartStep (release at (execute state packet) before packets)
         → ApartStep (elim t [
           | true ↦ release at state (before ++ packet ∷ []) packets
           | false ↦ also (done at packet (answer_of packet.body state.values) true) (release at (execute state packet) before packets)
@@ -123,9 +135,12 @@ releases at state before (packet ∷ packets) apart = by_test (blocked state.hol
     by_test true stays goes = stays
     by_test false stays goes = record { held = goes.held; fresh = goes.fresh; once = goes.once }
 
-arrives_new : (state : StoreState) (packet : ShardPacket) → Apart state state.waiting → is_decided (state.recorded packet.id (phase_of packet.body)) ≡ false → waits packet.id state.waiting ≡ false
+arrives_new : (state : StoreState) (packet : ShardPacket) → Apart state state.waiting
+    → is_decided (state.recorded packet.id (phase_of packet.body)) ≡ false → waits packet.id state.waiting ≡ false
     → ApartStep (arrive_new state packet)
-arrives_new state packet apart new alone = by_test (is_prelim packet.body && is_decided (state.decided packet.id)) (blocked state.holding state.waiting (locks_of packet.body))
+arrives_new state packet apart new alone =
+    by_test (is_prelim packet.body && is_decided (state.decided packet.id))
+    (blocked state.holding state.waiting (locks_of packet.body))
   where
     others : Each (λ waiter. same_id packet.id waiter.id ≡ false) state.waiting
     others = others_wait packet.id state.waiting alone
@@ -151,7 +166,9 @@ arrives_new state packet apart new alone = by_test (is_prelim packet.body && is_
       once = apart.once;
     }
     by_test false true = record { held = queued.held; fresh = queued.fresh; once = queued.once }
-    by_test false false = subst (λ (waiters : List ShardPacket). Apart (execute state packet) waiters) (append-nil state.waiting) (executed state state.waiting packet [] queued)
+    by_test false false =
+        subst (λ (waiters : List ShardPacket). Apart (execute state packet) waiters) (append-nil state.waiting)
+        (executed state state.waiting packet [] queued)
 
 arrives : (state : StoreState) (packet : ShardPacket) → Apart state state.waiting → ApartStep (arrive state packet)
 arrives state packet apart = by_record (state.recorded packet.id (phase_of packet.body)) refl (waits packet.id state.waiting) refl
@@ -164,8 +181,10 @@ arrives state packet apart = by_record (state.recorded packet.id (phase_of packe
     by_record None r true w = apart
     by_record None r false w = arrives_new state packet apart (ap is_decided r) w
 
-concludes : (state : StoreState) (packet : ShardPacket) (outcome : Answer) (writes : List Write) → Apart state state.waiting → ApartStep (conclude state packet outcome writes)
-concludes state packet outcome writes apart = by_decided (state.decided packet.id) (holds packet.id state.holding) (list_any (is_prelim_of packet.id) state.waiting)
+concludes : (state : StoreState) (packet : ShardPacket) (outcome : Answer) (writes : List Write) → Apart state state.waiting
+    → ApartStep (conclude state packet outcome writes)
+concludes state packet outcome writes apart =
+    by_decided (state.decided packet.id) (holds packet.id state.holding) (list_any (is_prelim_of packet.id) state.waiting)
   where
     by_decided : (found : Option Answer) (t u : Bool) → ApartStep (elim found [
       | Some decided ↦ only state (done packet.at packet decided false)
@@ -190,22 +209,27 @@ concludes state packet outcome writes apart = by_decided (state.decided packet.i
         })
     by_decided None false false = record { held = apart.held; fresh = apart.fresh; once = apart.once }
 
-steps : (body : Body) (state : StoreState) (packet : ShardPacket) → Apart state state.waiting → ApartStep (step_by body state packet)
+steps : (body : Body) (state : StoreState) (packet : ShardPacket) → Apart state state.waiting
+    → ApartStep (step_by body state packet)
 steps (Independent ops) state packet apart = arrives state packet apart
 steps (Prelim locks) state packet apart = arrives state packet apart
 steps (Commit keys writes) state packet apart = concludes state packet Committed writes apart
 steps (Abort keys) state packet apart = concludes state packet Aborted [] apart
 
-apart_run : (packets : List ShardPacket) (state : StoreState) → Apart state state.waiting → Apart (run_state state packets) (run_state state packets).waiting
+apart_run : (packets : List ShardPacket) (state : StoreState) → Apart state state.waiting
+    → Apart (run_state state packets) (run_state state packets).waiting
 apart_run [] state apart = apart
 apart_run (packet ∷ packets) state apart = apart_run packets (step state packet).state (steps packet.body state packet apart)
 
 not_both : (state : StoreState) (id : TxnId) (waiters : List ShardPacket) → is_decided (state.recorded id Phase.Prelim) ≡ true
-    → Each (λ waiter. is_decided (state.recorded waiter.id (phase_of waiter.body)) ≡ false) waiters → list_any (is_prelim_of id) waiters ≡ true → ⊥
+    → Each (λ waiter. is_decided (state.recorded waiter.id (phase_of waiter.body)) ≡ false) waiters
+    → list_any (is_prelim_of id) waiters ≡ true → ⊥
 not_both state id [] known fresh waits = both_ways _ refl waits
-not_both state id (waiter ∷ waiters) known fresh waits = by_test (or_cases (is_prelim_of id waiter) (list_any (is_prelim_of id) waiters) waits) (not_both state id waiters known fresh.1)
+not_both state id (waiter ∷ waiters) known fresh waits =
+    by_test (or_cases (is_prelim_of id waiter) (list_any (is_prelim_of id) waiters) waits) (not_both state id waiters known fresh.1)
   where
-    by_test : ((is_prelim_of id waiter ≡ true) ⊎ (list_any (is_prelim_of id) waiters ≡ true)) → (list_any (is_prelim_of id) waiters ≡ true → ⊥) → ⊥
+    by_test : ((is_prelim_of id waiter ≡ true) ⊎ (list_any (is_prelim_of id) waiters ≡ true))
+        → (list_any (is_prelim_of id) waiters ≡ true → ⊥) → ⊥
     by_test (inl t) ih =
         let parts = and_parts (same_id id waiter.id) (is_prelim waiter.body) t in
         both_ways _ fresh.0 (subst (λ (other : TxnId). is_decided (state.recorded other (phase_of waiter.body)) ≡ true) (same_id-true id waiter.id parts.0)
@@ -213,7 +237,8 @@ not_both state id (waiter ∷ waiters) known fresh waits = by_test (or_cases (is
     by_test (inr t) ih = ih t
 
 -- A PRELIMINARY THAT HOLDS DOESN'T WAIT
-pub holder_waits_not : (packets : List ShardPacket) (id : TxnId) → holds id (run_state empty packets).holding ≡ true → list_any (is_prelim_of id) (run_state empty packets).waiting ≡ true → ⊥
+pub holder_waits_not : (packets : List ShardPacket) (id : TxnId) → holds id (run_state empty packets).holding ≡ true
+    → list_any (is_prelim_of id) (run_state empty packets).waiting ≡ true → ⊥
 holder_waits_not packets id holding waiting =
     let apart = apart_run packets empty (record { held = λ other h. absurd (both_ways _ refl h); fresh = tt; once = tt }) in
     not_both (run_state empty packets) id (run_state empty packets).waiting (apart.held id holding) apart.fresh waiting

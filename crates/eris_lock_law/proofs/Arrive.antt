@@ -1,3 +1,4 @@
+-- The step of an Independent or a Prelim.
 use Rattle.eris_base.specs.declared.ids.ClientId.{ClientId}
 use Rattle.eris_base.specs.declared.ids.Phase.{Phase}
 use Rattle.eris_base.specs.declared.ids.Place.{Place}
@@ -49,21 +50,26 @@ or_added true true = refl
 or_added true false = refl
 or_added false b = sym (or_none b)
 
-distinct_added : (entries : List Entry) (entry : Entry) → Distinct entries → has_id entry.packet.id entries ≡ false → Distinct (entries ++ entry ∷ [])
+distinct_added : (entries : List Entry) (entry : Entry) → Distinct entries → has_id entry.packet.id entries ≡ false
+    → Distinct (entries ++ entry ∷ [])
 distinct_added [] entry h n = (tt, tt)
 distinct_added (other ∷ entries) entry h n =
     let parts = or_parts _ _ n in
     (Each-append _ entries (entry ∷ []) h.0 ((same_id-turned other.packet.id entry.packet.id ∙ parts.0), tt), distinct_added entries entry h.1 parts.1)
 
-logged_answers_added : (entries : List Entry) (entry : Entry) (values : Values) → logged_answers (entries ++ entry ∷ []) values ≡ logged_answers entries values ++ served_at entry (reached entries values) ∷ []
+logged_answers_added : (entries : List Entry) (entry : Entry) (values : Values)
+    → logged_answers (entries ++ entry ∷ []) values ≡ logged_answers entries values ++ served_at entry (reached entries values) ∷ []
 logged_answers_added [] entry values = refl
-logged_answers_added (other ∷ entries) entry values = ap (λ t. served_at other values ∷ t) (logged_answers_added entries entry (left_after other.packet.body other.writes values))
+logged_answers_added (other ∷ entries) entry values =
+    ap (λ t. served_at other values ∷ t) (logged_answers_added entries entry (left_after other.packet.body other.writes values))
 
-reached_added : (entries : List Entry) (entry : Entry) (values : Values) → reached (entries ++ entry ∷ []) values ≡ left_after entry.packet.body entry.writes (reached entries values)
+reached_added : (entries : List Entry) (entry : Entry) (values : Values)
+    → reached (entries ++ entry ∷ []) values ≡ left_after entry.packet.body entry.writes (reached entries values)
 reached_added [] entry values = refl
 reached_added (other ∷ entries) entry values = reached_added entries entry (left_after other.packet.body other.writes values)
 
-has_id_added : (id : TxnId) (entries : List Entry) (entry : Entry) → has_id id (entries ++ entry ∷ []) ≡ (has_id id entries || (same_id id entry.packet.id || false))
+has_id_added : (id : TxnId) (entries : List Entry) (entry : Entry)
+    → has_id id (entries ++ entry ∷ []) ≡ (has_id id entries || (same_id id entry.packet.id || false))
 has_id_added id entries entry = list_any-append (λ d. same_id id d.packet.id) entries (entry ∷ [])
 
 module _ (all : Plain) (kind : TxnId → Bool) (packets : List ShardPacket) (values : Values) (seen decided : List TxnId) (at : Place) (asker : ClientId) (id : TxnId) (body : Body) (writes : List Write) (status : Status) (state : StoreState) (entries : List Entry) where
@@ -74,7 +80,8 @@ module _ (all : Plain) (kind : TxnId → Bool) (packets : List ShardPacket) (val
   point_before = record { all = all; kind = kind; rest = arrived ∷ packets; reached = values; seen = seen; decided = decided }
 
   abbrev pub point_after : Point
-  point_after = record { all = all; kind = kind; rest = packets; reached = left_after body writes values; seen = id ∷ seen; decided = decided }
+  point_after =
+      record { all = all; kind = kind; rest = packets; reached = left_after body writes values; seen = id ∷ seen; decided = decided }
 
   abbrev it : Entry
   it = entry_of at asker id body writes status
@@ -83,7 +90,8 @@ module _ (all : Plain) (kind : TxnId → Bool) (packets : List ShardPacket) (val
   later = plain_run (left_after body writes values) (id ∷ seen) decided packets
 
   -- one more transaction comes, which hasn't acted
-  pub enqueued : (recorded : TxnId → Phase → Option Answer) → Fit point_before state entries → has_id id entries ≡ false → has_acted status ≡ false
+  pub enqueued : (recorded : TxnId → Phase → Option Answer) → Fit point_before state entries → has_id id entries ≡ false
+      → has_acted status ≡ false
       → Each (EntryFit kind packets recorded state.decided) entries
       → EntryFit kind packets recorded state.decided (entry_of at asker id body writes status)
       → ((other_id : TxnId) (phase : Phase) (answer : Answer) → recorded other_id phase ≡ Some answer → Good all phase other_id answer)
@@ -98,7 +106,8 @@ module _ (all : Plain) (kind : TxnId → Bool) (packets : List ShardPacket) (val
     order = order_added conflict entries it fit.order idle;
     each = Each-append _ entries (it ∷ []) each (own, tt);
     distinct = distinct_added entries it fit.distinct new;
-    holding = λ p. fit.holding p ∙ sym (any_holding_in entries it [] p ∙ (ap (λ t. list_any p (holding_in entries) || list_any p t) (cond-false _ _ _ (not_holding status idle)) ∙ or_none _));
+    holding =
+        λ p. fit.holding p ∙ sym (any_holding_in entries it [] p ∙ (ap (λ t. list_any p (holding_in entries) || list_any p t) (cond-false _ _ _ (not_holding status idle)) ∙ or_none _));
     sound = sound;
     logged = logged;
     linked = fit.linked ∙ (ap (λ t. logged_answers entries no_values ++ t) next
@@ -106,7 +115,8 @@ module _ (all : Plain) (kind : TxnId → Bool) (packets : List ShardPacket) (val
         ∙ (sym (append_assoc (logged_answers entries no_values) (served_at it (reached entries no_values) ∷ []) later)
         ∙ ap (λ t. t ++ later) (sym (logged_answers_added entries it no_values)))));
     reaches = reached_added entries it no_values ∙ ap (left_after body writes) fit.reaches;
-    seen_is = λ other_id. ap (λ t. same_id other_id id || t) (fit.seen_is other_id) ∙ (or_added (same_id other_id id) (has_id other_id entries) ∙ sym (has_id_added other_id entries it));
+    seen_is =
+        λ other_id. ap (λ t. same_id other_id id || t) (fit.seen_is other_id) ∙ (or_added (same_id other_id id) (has_id other_id entries) ∙ sym (has_id_added other_id entries it));
     decided_is = fit.decided_is;
     ends = fit.ends ∙ last;
     told = fit.told;
@@ -114,13 +124,17 @@ module _ (all : Plain) (kind : TxnId → Bool) (packets : List ShardPacket) (val
     ruled = ruled;
   }
 
-pub writes_pass : (other_id : TxnId) (at : Place) (asker : ClientId) (id : TxnId) (body : Body) (packets : List ShardPacket) → is_conclusory body ≡ false → writes_in other_id (record { at = at; asker = asker; id = id; body = body } ∷ packets) ≡ writes_in other_id packets
+pub writes_pass : (other_id : TxnId) (at : Place) (asker : ClientId) (id : TxnId) (body : Body) (packets : List ShardPacket)
+    → is_conclusory body ≡ false
+    → writes_in other_id (record { at = at; asker = asker; id = id; body = body } ∷ packets) ≡ writes_in other_id packets
 writes_pass other_id at asker id (Independent ops) packets h = refl
 writes_pass other_id at asker id (Prelim ls) packets h = refl
 writes_pass other_id at asker id (Commit keys writes) packets h = cc
 writes_pass other_id at asker id (Abort keys) packets h = cc
 
-pub outcome_passes : (other_id : TxnId) (at : Place) (asker : ClientId) (id : TxnId) (body : Body) (packets : List ShardPacket) → is_conclusory body ≡ false → outcome_in other_id (record { at = at; asker = asker; id = id; body = body } ∷ packets) ≡ outcome_in other_id packets
+pub outcome_passes : (other_id : TxnId) (at : Place) (asker : ClientId) (id : TxnId) (body : Body) (packets : List ShardPacket)
+    → is_conclusory body ≡ false
+    → outcome_in other_id (record { at = at; asker = asker; id = id; body = body } ∷ packets) ≡ outcome_in other_id packets
 outcome_passes other_id at asker id (Independent ops) packets h = refl
 outcome_passes other_id at asker id (Prelim ls) packets h = refl
 outcome_passes other_id at asker id (Commit keys writes) packets h = cc
@@ -132,7 +146,8 @@ phase_is (Prelim ls) h = refl
 phase_is (Commit keys writes) h = cc
 phase_is (Abort keys) h = cc
 
-phase_from : (body other_body : Body) → is_conclusory body ≡ false → is_conclusory other_body ≡ false → is_prelim body ≡ is_prelim other_body → phase_of body ≡ phase_of other_body
+phase_from : (body other_body : Body) → is_conclusory body ≡ false → is_conclusory other_body ≡ false
+    → is_prelim body ≡ is_prelim other_body → phase_of body ≡ phase_of other_body
 phase_from body other_body h k e = phase_is body h ∙ (ap (λ t. cond t Phase.Prelim Phase.Whole) e ∙ sym (phase_is other_body k))
 
 -- the rest of the list is shorter
@@ -153,7 +168,8 @@ waits_logged : (id : TxnId) (entries : List Entry) → waits id (waiting_in entr
 waits_logged id [] h = h
 waits_logged id (entry ∷ entries) h = by_test (is_waiting entry.status) h (waits_logged id entries)
   where
-    by_test : (test : Bool) → waits id (cond test (entry.packet ∷ waiting_in entries) (waiting_in entries)) ≡ true → (waits id (waiting_in entries) ≡ true → has_id id entries ≡ true) → has_id id (entry ∷ entries) ≡ true
+    by_test : (test : Bool) → waits id (cond test (entry.packet ∷ waiting_in entries) (waiting_in entries)) ≡ true
+        → (waits id (waiting_in entries) ≡ true → has_id id entries ≡ true) → has_id id (entry ∷ entries) ≡ true
     by_test true k ih = split (or_cases _ _ k)
       where
         split : ((same_id id entry.packet.id ≡ true) ⊎ (waits id (waiting_in entries) ≡ true)) → has_id id (entry ∷ entries) ≡ true
@@ -166,9 +182,13 @@ is_new : (kind : TxnId → Bool) (rest : List ShardPacket) (recorded : TxnId →
     → is_conclusory body ≡ false → is_prelim body ≡ kind id → recorded id (phase_of body) ≡ None
     → Each (EntryFit kind rest recorded decided) entries → waits id (waiting_in entries) ≡ false → has_id id entries ≡ false
 is_new kind rest recorded decided id body [] p k n f w = refl
-is_new kind rest recorded decided id body (entry ∷ entries) p k n f w = by_tests (cases_Bool (same_id id entry.packet.id)) (cases_Bool (is_waiting entry.status)) (is_new kind rest recorded decided id body entries p k n f.1)
+is_new kind rest recorded decided id body (entry ∷ entries) p k n f w =
+    by_tests (cases_Bool (same_id id entry.packet.id)) (cases_Bool (is_waiting entry.status))
+    (is_new kind rest recorded decided id body entries p k n f.1)
   where
-    by_tests : ((same_id id entry.packet.id ≡ true) ⊎ (same_id id entry.packet.id ≡ false)) → ((is_waiting entry.status ≡ true) ⊎ (is_waiting entry.status ≡ false)) → (waits id (waiting_in entries) ≡ false → has_id id entries ≡ false) → has_id id (entry ∷ entries) ≡ false
+    by_tests : ((same_id id entry.packet.id ≡ true) ⊎ (same_id id entry.packet.id ≡ false))
+        → ((is_waiting entry.status ≡ true) ⊎ (is_waiting entry.status ≡ false))
+        → (waits id (waiting_in entries) ≡ false → has_id id entries ≡ false) → has_id id (entry ∷ entries) ≡ false
     by_tests (inl q) (inl t) ih = absurd (both_ways _ (or_parts _ _ (ap (waits id) (sym (cond-true _ _ _ t)) ∙ w)).0 q)
     by_tests (inl q) (inr t) ih =
         let same : id ≡ entry.packet.id = same_id-true id entry.packet.id q in
@@ -184,7 +204,8 @@ left_at_none (Prelim ls) key value h = refl
 left_at_none (Commit keys writes) key value h = refl
 left_at_none (Abort keys) key value h = refl
 
-left_at_any : (body : Body) (own_writes ys : List Write) (key : Key) (value : Option ℕ) → is_prelim body ≡ false → left_at body own_writes key value ≡ left_at body ys key value
+left_at_any : (body : Body) (own_writes ys : List Write) (key : Key) (value : Option ℕ) → is_prelim body ≡ false
+    → left_at body own_writes key value ≡ left_at body ys key value
 left_at_any (Independent ops) own_writes ys key value h = refl
 left_at_any (Prelim ls) own_writes ys key value h = cc
 left_at_any (Commit keys writes) own_writes ys key value h = refl
@@ -212,26 +233,34 @@ module _ (all : Plain) (kind : TxnId → Bool) (packets : List ShardPacket) (val
   abbrev newcomer : ShardPacket
   newcomer = record { at = at; asker = asker; id = id; body = body }
 
-  run_skips : is_among id seen ≡ true → plain_run values seen concluded (newcomer ∷ packets) ≡ plain_run values seen concluded packets
+  run_skips : is_among id seen ≡ true
+      → plain_run values seen concluded (newcomer ∷ packets) ≡ plain_run values seen concluded packets
   run_skips h = rw (plain, h, plain_run) refl
 
   abbrev granted : List Write
   granted = cond (is_among id concluded) [] (writes_in id packets)
 
-  run_takes : is_among id seen ≡ false → plain_run values seen concluded (newcomer ∷ packets) ≡ record { id = id; answer = answer_of body values } ∷ plain_run (left_after body granted values) (id ∷ seen) concluded packets
+  run_takes : is_among id seen ≡ false
+      → plain_run values seen concluded (newcomer ∷ packets) ≡ record { id = id; answer = answer_of body values } ∷ plain_run (left_after body granted values) (id ∷ seen) concluded packets
   run_takes h = rw (plain, h, plain_run) refl
 
-  values_take : is_among id seen ≡ false → plain_values values seen concluded (newcomer ∷ packets) ≡ plain_values (left_after body granted values) (id ∷ seen) concluded packets
+  values_take : is_among id seen ≡ false
+      → plain_values values seen concluded (newcomer ∷ packets) ≡ plain_values (left_after body granted values) (id ∷ seen) concluded packets
   values_take h = rw (plain, h, plain_values) refl
 
-  values_skip : is_among id seen ≡ true → plain_values values seen concluded (newcomer ∷ packets) ≡ plain_values values seen concluded packets
+  values_skip : is_among id seen ≡ true
+      → plain_values values seen concluded (newcomer ∷ packets) ≡ plain_values values seen concluded packets
   values_skip h = rw (plain, h, plain_values) refl
 
   each_on : Each (EntryFit kind packets state.recorded state.decided) entries
-  each_on = Each-weaker _ _ (λ e f. fit_rest kind (newcomer ∷ packets) packets state.recorded state.decided state.decided e (λ o p n. (n, writes_pass e.packet.id at asker id body packets plain)) f) entries fit.each
+  each_on =
+      Each-weaker _ _
+      (λ e f. fit_rest kind (newcomer ∷ packets) packets state.recorded state.decided state.decided e (λ o p n. (n, writes_pass e.packet.id at asker id body packets plain)) f)
+      entries fit.each
 
   -- one that comes again changes nothing
-  again : has_id id entries ≡ true → Fit (record { all = all; kind = kind; rest = packets; reached = values; seen = seen; decided = concluded }) state entries
+  again : has_id id entries ≡ true
+      → Fit (record { all = all; kind = kind; rest = packets; reached = values; seen = seen; decided = concluded }) state entries
   again h = record {
     values = fit.values;
     order = fit.order;
@@ -253,7 +282,8 @@ module _ (all : Plain) (kind : TxnId → Bool) (packets : List ShardPacket) (val
   kept_granted : (key : Key) (value : Option ℕ) → alters key (locks_of body) ≡ false → left_at body granted key value ≡ value
   kept_granted key value a = by_kind (cases_Bool (is_prelim body)) (cases_Bool (is_among id concluded))
     where
-      by_kind : ((is_prelim body ≡ true) ⊎ (is_prelim body ≡ false)) → ((is_among id concluded ≡ true) ⊎ (is_among id concluded ≡ false)) → left_at body granted key value ≡ value
+      by_kind : ((is_prelim body ≡ true) ⊎ (is_prelim body ≡ false))
+          → ((is_among id concluded ≡ true) ⊎ (is_among id concluded ≡ false)) → left_at body granted key value ≡ value
       by_kind (inl p) (inl t) = ap (λ w. left_at body w key value) (cond-true _ _ _ t) ∙ left_at_none body key value p
       by_kind (inl p) (inr t) = ap (λ w. left_at body w key value) (cond-false _ _ _ t) ∙ kept key value a
       by_kind (inr p) t = left_at_any body granted (writes_in id packets) key value p ∙ kept key value a
@@ -277,7 +307,8 @@ module _ (all : Plain) (kind : TxnId → Bool) (packets : List ShardPacket) (val
       (run_takes (fit.seen_is id ∙ new)) (values_take (fit.seen_is id ∙ new))
 
   -- a new preliminary whose id is decided was decided Aborted
-  aborted : state.recorded id (phase_of body) ≡ None → is_prelim body ≡ true → (found : Option Answer) → state.decided id ≡ found → is_decided found ≡ true → all.outcome id ≡ Some Aborted
+  aborted : state.recorded id (phase_of body) ≡ None → is_prelim body ≡ true → (found : Option Answer) → state.decided id ≡ found
+      → is_decided found ≡ true → all.outcome id ≡ Some Aborted
   aborted r p None d k = absurd (both_ways _ refl k)
   aborted r p (Some a) d k = by_rule (fit.ruled id a d)
     where
@@ -285,17 +316,20 @@ module _ (all : Plain) (kind : TxnId → Bool) (packets : List ShardPacket) (val
       by_rule (inl q) = fit.told id a d ∙ ap Some q
       by_rule (inr q) = absurd (both_ways _ (ap is_known r) (rw (phase_is body plain, p) q))
 
-  good_aborted : state.recorded id (phase_of body) ≡ None → is_prelim body ≡ true → is_decided (state.decided id) ≡ true → Good all (phase_of body) id Aborted
+  good_aborted : state.recorded id (phase_of body) ≡ None → is_prelim body ≡ true → is_decided (state.decided id) ≡ true
+      → Good all (phase_of body) id Aborted
   good_aborted r p k = rw (phase_is body plain, p) (inr (refl, aborted r p (state.decided id) refl k))
 
-  voided : state.recorded id (phase_of body) ≡ None → has_id id entries ≡ false → (is_prelim body && is_decided (state.decided id)) ≡ true
+  voided : state.recorded id (phase_of body) ≡ None → has_id id entries ≡ false
+      → (is_prelim body && is_decided (state.decided id)) ≡ true
       → Fit (point_after all kind packets values seen concluded at asker id body granted Void state entries) (record state { recorded = note state.recorded id (phase_of body) Aborted }) (entries ++ entry_of at asker id body granted Void ∷ [])
   voided r new shut =
       let parts = and_parts _ _ shut in
       enqueued all kind packets values seen concluded at asker id body granted Void state entries (note state.recorded id (phase_of body) Aborted) fit new refl
       (Each-weaker _ _ (λ e f. fit_noted kind packets state.recorded state.decided id (phase_of body) Aborted e f) entries each_on)
       (record {
-        lawful = record { kept = kept_granted; void = λ value key w. ap (λ t. left_at body t key w) (cond-true _ _ _ (fit.decided_is id ∙ parts.1)) ∙ left_at_none body key w parts.0 };
+        lawful =
+            record { kept = kept_granted; void = λ value key w. ap (λ t. left_at body t key w) (cond-true _ _ _ (fit.decided_is id ∙ parts.1)) ∙ left_at_none body key w parts.0 };
         plain = plain;
         kind_is = kind_is;
         known = λ w. known_here state.recorded id (phase_of body) Aborted;
@@ -309,15 +343,20 @@ module _ (all : Plain) (kind : TxnId → Bool) (packets : List ShardPacket) (val
       (ruled_noted state.recorded state.decided id (phase_of body) Aborted fit.ruled) (λ i. outcome_passes i at asker id body packets plain)
       (run_takes (fit.seen_is id ∙ new)) (values_take (fit.seen_is id ∙ new))
 
-  by_blocked : has_id id entries ≡ false → (is_prelim body && is_decided (state.decided id)) ≡ false → (test : Bool) → blocked state.holding state.waiting (locks_of body) ≡ test → Next all kind packets (arrive_new state newcomer)
+  by_blocked : has_id id entries ≡ false → (is_prelim body && is_decided (state.decided id)) ≡ false → (test : Bool)
+      → blocked state.holding state.waiting (locks_of body) ≡ test → Next all kind packets (arrive_new state newcomer)
   by_blocked new free true k = rw (free, k, arrive_new) (record {
     reached_now = left_after body granted values;
     seen_now = id ∷ seen;
     decided_now = concluded;
     right = record {
       log = entries ++ entry_of at asker id body granted Waits ∷ [];
-      fit = rewait (point_after all kind packets values seen concluded at asker id body granted Waits state entries) state (state.waiting ++ newcomer ∷ []) (entries ++ entry_of at asker id body granted Waits ∷ []) (queued new free);
-      waiting = ap (λ test. test ++ newcomer ∷ []) waiting ∙ sym (waiting_in-append entries (entry_of at asker id body granted Waits ∷ []));
+      fit =
+          rewait (point_after all kind packets values seen concluded at asker id body granted Waits state entries) state
+          (state.waiting ++ newcomer ∷ []) (entries ++ entry_of at asker id body granted Waits ∷ []) (queued new free);
+      waiting =
+          ap (λ test. test ++ newcomer ∷ []) waiting
+          ∙ sym (waiting_in-append entries (entry_of at asker id body granted Waits ∷ []));
       good = tt;
     };
   })
@@ -335,7 +374,8 @@ module _ (all : Plain) (kind : TxnId → Bool) (packets : List ShardPacket) (val
         };
       })
 
-  by_decided : state.recorded id (phase_of body) ≡ None → has_id id entries ≡ false → (test : Bool) → (is_prelim body && is_decided (state.decided id)) ≡ test → Next all kind packets (arrive_new state newcomer)
+  by_decided : state.recorded id (phase_of body) ≡ None → has_id id entries ≡ false → (test : Bool)
+      → (is_prelim body && is_decided (state.decided id)) ≡ test → Next all kind packets (arrive_new state newcomer)
   by_decided r new true k = rw (k, arrive_new) (record {
     reached_now = left_after body granted values;
     seen_now = id ∷ seen;
@@ -349,7 +389,8 @@ module _ (all : Plain) (kind : TxnId → Bool) (packets : List ShardPacket) (val
   })
   by_decided r new false k = by_blocked new k (blocked state.holding state.waiting (locks_of body)) refl
 
-  by_waits : (test : Bool) → waits id state.waiting ≡ test → state.recorded id (phase_of body) ≡ None → Next all kind packets (arrive state newcomer)
+  by_waits : (test : Bool) → waits id state.waiting ≡ test → state.recorded id (phase_of body) ≡ None
+      → Next all kind packets (arrive state newcomer)
   by_waits true k h = rw (h, k, arrive) (record {
     reached_now = values;
     seen_now = seen;
@@ -361,7 +402,8 @@ module _ (all : Plain) (kind : TxnId → Bool) (packets : List ShardPacket) (val
       good = tt;
     };
   })
-  by_waits false k h = rw (h, k, arrive) (by_decided h (is_new kind (newcomer ∷ packets) state.recorded state.decided id body entries plain kind_is h fit.each (ap (waits id) (sym waiting) ∙ k)) (is_prelim body && is_decided (state.decided id)) refl)
+  by_waits false k h =
+      rw (h, k, arrive) (by_decided h (is_new kind (newcomer ∷ packets) state.recorded state.decided id body entries plain kind_is h fit.each (ap (waits id) (sym waiting) ∙ k)) (is_prelim body && is_decided (state.decided id)) refl)
 
   by_record : (found : Option Answer) → state.recorded id (phase_of body) ≡ found → Next all kind packets (arrive state newcomer)
   by_record (Some a) h = rw (h, arrive) (record {

@@ -1,3 +1,4 @@
+-- A property of each item of a list.
 use Rattle.eris_locks.specs.Each.{Each}
 use Rattle.std.proofs.Common.{Bool, List, [], cond, false, true, ◌++◌, ◌∷◌}
 use Rattle.std.specs.List.{filter}

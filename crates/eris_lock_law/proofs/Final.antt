@@ -1,3 +1,4 @@
+-- The law.
 use Rattle.eris_base.specs.declared.ids.Phase.{Phase}
 use Rattle.eris_base.specs.declared.ids.TxnId.{TxnId}
 use Rattle.eris_lock_law.proofs.Act.{lawful_of}
@@ -31,14 +32,16 @@ use mathlib.Core.Path.{fun_ext}
 pub answers_good : (packets : List ShardPacket) → WellFormed packets → Each (GoodDone (plain packets)) (run_dones empty packets)
 answers_good packets well = (law_from packets (kind_of packets) (goes_well packets well)).good
 
-done_right : (packets : List ShardPacket) (phase : Phase) (id : TxnId) (answer : Answer) → Good (plain packets) phase id answer → (phase ≡ Phase.Prelim → answer ≡ Aborted → EndedEarly packets id)
+done_right : (packets : List ShardPacket) (phase : Phase) (id : TxnId) (answer : Answer) → Good (plain packets) phase id answer
+    → (phase ≡ Phase.Prelim → answer ≡ Aborted → EndedEarly packets id)
     → Said id phase answer (run_dones empty packets) → IsRight packets phase id answer
 done_right packets Phase.Whole id answer h e said = h
-done_right packets Phase.Prelim id answer (inl h) e said = inl (record { plain = h; in_time = in_time packets id answer (plain_granted packets id answer h) said })
+done_right packets Phase.Prelim id answer (inl h) e said =
+    inl (record { plain = h; in_time = in_time packets id answer (plain_granted packets id answer h) said })
 done_right packets Phase.Prelim id answer (inr h) e said = inr (record { is = h.0; outcome = h.1; ended = e refl h.0 })
 done_right packets Phase.Conclude id answer h e said = h
 
-all_said : (dones : List Done) → Each (λ given. Said given.id given.phase given.answer dones) dones
+pub all_said : (dones : List Done) → Each (λ given. Said given.id given.phase given.answer dones) dones
 all_said [] = tt
 all_said (given ∷ dones) = (
   inl (refl, refl, refl),
@@ -55,8 +58,10 @@ answers_right packets well =
     (λ given h e. (h, e)) (run_dones empty packets) (answers_good packets well) (early_answers packets (kind_of packets) (kinds_of packets well)))
     (all_said (run_dones empty packets))
 
-one_closed : (entry : Entry) (status : Status) (key : Key) (value : Option ℕ) (holding : List Held) (waiters : List ShardPacket) → Lawful entry → entry.status ≡ status
-    → list_any (λ h. true) (cond (is_holding status) (holder_of entry ∷ holding) holding) ≡ false → cond (is_waiting status) (entry.packet ∷ waiters) waiters ≡ []
+one_closed : (entry : Entry) (status : Status) (key : Key) (value : Option ℕ) (holding : List Held) (waiters : List ShardPacket)
+    → Lawful entry → entry.status ≡ status
+    → list_any (λ h. true) (cond (is_holding status) (holder_of entry ∷ holding) holding) ≡ false
+    → cond (is_waiting status) (entry.packet ∷ waiters) waiters ≡ []
     → (cond (is_complete status) (effect entry key value) value ≡ effect entry key value) × (list_any (λ h. true) holding ≡ false) × (waiters ≡ [])
 one_closed entry Waits key value holding waiters l is h w = absurd (no w)
   where
@@ -66,13 +71,16 @@ one_closed entry Holds key value holding waiters l is h w = absurd (both_ways _ 
 one_closed entry Complete key value holding waiters l is h w = (refl, h, w)
 one_closed entry Void key value holding waiters l is h w = (sym (l.void (ap is_void is) key value), h, w)
 
-all_closed : (entries : List Entry) (key : Key) (value : Option ℕ) → AllLawful entries → list_any (λ h. true) (holding_in entries) ≡ false → waiting_in entries ≡ [] → current key entries value ≡ final key entries value
+all_closed : (entries : List Entry) (key : Key) (value : Option ℕ) → AllLawful entries
+    → list_any (λ h. true) (holding_in entries) ≡ false → waiting_in entries ≡ []
+    → current key entries value ≡ final key entries value
 all_closed [] key value l h w = refl
 all_closed (entry ∷ entries) key value l h w =
     let r = one_closed entry entry.status key value (holding_in entries) (waiting_in entries) l.0 refl h w in
     ap (current key entries) r.0 ∙ all_closed entries key (effect entry key value) l.1 r.1 r.2
 
-pub values_right : (packets : List ShardPacket) → WellFormed packets → (run_state empty packets).holding ≡ [] → (run_state empty packets).values ≡ plain_end packets
+pub values_right : (packets : List ShardPacket) → WellFormed packets → (run_state empty packets).holding ≡ []
+    → (run_state empty packets).values ≡ plain_end packets
 values_right packets well h =
     let n = (law_from packets (kind_of packets) (goes_well packets well)).next in
     let fit = n.right.fit in
@@ -87,7 +95,8 @@ pub waiting_none : (packets : List ShardPacket) → (run_state empty packets).ho
 waiting_none packets h = none_waits (run_state empty packets) (run_stuck packets empty tt) h
 
 -- AND SO IS WHAT A STORE ANSWERED that ran only a beginning of the list
-pub beginning_right : (packets rest : List ShardPacket) → WellFormed (packets ++ rest) → Each (IsRightDone (packets ++ rest)) (run_dones empty packets)
+pub beginning_right : (packets rest : List ShardPacket) → WellFormed (packets ++ rest)
+    → Each (IsRightDone (packets ++ rest)) (run_dones empty packets)
 beginning_right packets rest well =
     Each-left (IsRightDone (packets ++ rest)) (run_dones empty packets) (run_dones (run_state empty packets) rest)
     (subst (λ (dones : List Done). Each (IsRightDone (packets ++ rest)) dones) (dones_of_prefix packets rest empty) (answers_right (packets ++ rest) well))

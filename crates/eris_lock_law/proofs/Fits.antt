@@ -44,5 +44,6 @@ a_read_behind_a_lock_fits = record {
       ),
     ),
   );
-  finds = ((λ c d. absurd (both_ways _ refl c)), ((λ c d. absurd (both_ways _ refl c)), ((λ c d. absurd (both_ways _ refl c)), ((λ c d. refl), tt))));
+  finds =
+      ((λ c d. absurd (both_ways _ refl c)), ((λ c d. absurd (both_ways _ refl c)), ((λ c d. absurd (both_ways _ refl c)), ((λ c d. refl), tt))));
 }

@@ -23,7 +23,8 @@ same_id-from some other equal = ap (same_id some) (sym equal) ∙ same_id-refl s
 pub same_id-turned : (some other : TxnId) → same_id some other ≡ same_id other some
 same_id-turned some other = by_tests (cases_Bool (same_id some other)) (cases_Bool (same_id other some))
   where
-    by_tests : ((same_id some other ≡ true) ⊎ (same_id some other ≡ false)) → ((same_id other some ≡ true) ⊎ (same_id other some ≡ false)) → same_id some other ≡ same_id other some
+    by_tests : ((same_id some other ≡ true) ⊎ (same_id some other ≡ false))
+        → ((same_id other some ≡ true) ⊎ (same_id other some ≡ false)) → same_id some other ≡ same_id other some
     by_tests (inl h) (inl k) = h ∙ sym k
     by_tests (inr h) (inr k) = h ∙ sym k
     by_tests (inl h) (inr k) = absurd (both_ways _ k (same_id-from other some (sym (same_id-true some other h))))

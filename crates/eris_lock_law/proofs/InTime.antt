@@ -27,12 +27,14 @@ prelim_from (Prelim locks) h = refl
 prelim_from (Commit keys writes) h = cc
 prelim_from (Abort keys) h = cc
 
-prelim_came : (id : TxnId) (packets : List ShardPacket) → HasPacket id Phase.Prelim packets → list_any (is_prelim_of id) packets ≡ true
+prelim_came : (id : TxnId) (packets : List ShardPacket) → HasPacket id Phase.Prelim packets
+    → list_any (is_prelim_of id) packets ≡ true
 prelim_came id [] h = absurd h
 prelim_came id (packet ∷ packets) (inl h) =
     or_left (is_prelim_of id packet) (list_any (is_prelim_of id) packets)
     (and_from (same_id id packet.id) (is_prelim packet.body) (same_id-from id packet.id (sym h.0)) (prelim_from packet.body h.1))
-prelim_came id (packet ∷ packets) (inr h) = or_right (is_prelim_of id packet) (list_any (is_prelim_of id) packets) (prelim_came id packets h)
+prelim_came id (packet ∷ packets) (inr h) =
+    or_right (is_prelim_of id packet) (list_any (is_prelim_of id) packets) (prelim_came id packets h)
 
 outcome_here : (body : Body) (later : Option Answer) → phase_of body ≡ Phase.Conclude → outcome_by body true later ≡ None → ⊥
 outcome_here (Independent ops) later h e = cc
@@ -52,7 +54,8 @@ conclusory_came : (id : TxnId) (packets : List ShardPacket) → HasPacket id Pha
 conclusory_came id [] h e = h
 conclusory_came id (packet ∷ packets) (inl h) e =
     outcome_here packet.body (outcome_in id packets) h.1 (ap (λ (here : Bool). outcome_by packet.body here (outcome_in id packets)) (sym (same_id-from id packet.id (sym h.0))) ∙ e)
-conclusory_came id (packet ∷ packets) (inr h) e = conclusory_came id packets h (outcome_later packet.body (same_id id packet.id) (outcome_in id packets) e)
+conclusory_came id (packet ∷ packets) (inr h) e =
+    conclusory_came id packets h (outcome_later packet.body (same_id id packet.id) (outcome_in id packets) e)
 
 -- where no conclusory packet of an id came, it isn't decided
 undecided : (packets : List ShardPacket) (id : TxnId) → outcome_in id packets ≡ None → (run_state empty packets).decided id ≡ None
@@ -62,19 +65,22 @@ undecided packets id none = by_decided ((run_state empty packets).decided id) re
     by_decided None e = refl
     by_decided (Some answer) e = absurd (conclusory_came id packets ((ran packets).state.decided id answer e) none)
 
-pub in_time : (packets : List ShardPacket) (id : TxnId) (answer : Answer) → is_granted (Some answer) ≡ true → Said id Phase.Prelim answer (run_dones empty packets) → EndedEarly packets id → ⊥
+pub in_time : (packets : List ShardPacket) (id : TxnId) (answer : Answer) → is_granted (Some answer) ≡ true
+    → Said id Phase.Prelim answer (run_dones empty packets) → EndedEarly packets id → ⊥
 in_time packets id answer granted said early = by_unread early.unread
   where
     holding : holds id (run_state empty early.before).holding ≡ true
     holding = said_finds id answer early.before early.rest early.conclusory early.of_id early.concludes granted
         (subst (λ (list : List ShardPacket). Said id Phase.Prelim answer (run_dones empty list)) early.cut said) (undecided early.before id early.first)
 
-    by_unread : ((list_any (is_prelim_of id) (run_state empty early.before).waiting ≡ true) ⊎ (list_any (is_prelim_of id) early.before ≡ false)) → ⊥
+    by_unread : ((list_any (is_prelim_of id) (run_state empty early.before).waiting ≡ true) ⊎ (list_any (is_prelim_of id) early.before ≡ false))
+        → ⊥
     by_unread (inl waiting) = holder_waits_not early.before id holding waiting
     by_unread (inr none) = both_ways _ none (prelim_came id early.before ((ran early.before).state.held id holding))
 
 -- what the plain run answers isn't Aborted
-pub plain_granted : (packets : List ShardPacket) (id : TxnId) (answer : Answer) → IsPlain packets id answer → is_granted (Some answer) ≡ true
+pub plain_granted : (packets : List ShardPacket) (id : TxnId) (answer : Answer) → IsPlain packets id answer
+    → is_granted (Some answer) ≡ true
 plain_granted packets id (Ops made) h = refl
 plain_granted packets id (Answer.Values read) h = refl
 plain_granted packets id Committed h = refl

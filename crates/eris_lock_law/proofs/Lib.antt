@@ -1,23 +1,25 @@
-mod Ids
-mod Keys
-mod Each
-mod Log
-mod Order
-mod Prelims
-mod Fit
-mod Act
-mod Release
-mod Arrive
-mod Conclude
-mod Runs
-mod Shape
-mod Stuck
-mod SaidFrom
-mod Early
-mod Apart
-mod Ended
-mod Lost
-mod Once
-mod InTime
-mod Final
-mod Fits
+pub mod Ids
+pub mod Keys
+pub mod Each
+pub mod Log
+pub mod Order
+pub mod Prelims
+pub mod Fit
+pub mod Act
+pub mod Release
+pub mod Arrive
+pub mod Conclude
+pub mod Runs
+pub mod Shape
+pub mod Stuck
+pub mod SaidFrom
+pub mod Early
+pub mod Apart
+pub mod Ended
+pub mod Unrecorded
+pub mod Lost
+pub mod Once
+pub mod InTime
+pub mod Final
+pub mod InPart
+pub mod Fits

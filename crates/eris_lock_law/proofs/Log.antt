@@ -1,3 +1,4 @@
+-- The log beside a run of the store, and what its entries make of a key.
 use Rattle.eris_lock_law.proofs.Keys.{after_all_at, on_key, put_on, touches_from_alters, written_at}
 use Rattle.eris_locks.specs.Each.{Each}
 use Rattle.eris_locks.specs.Locks.{IsConflict, alters, locks_of, touches}
@@ -59,7 +60,8 @@ left_at (Prelim ls) own_writes key value = put_on own_writes key value
 left_at (Commit keys writes) own_writes key value = value
 left_at (Abort keys) own_writes key value = value
 
-pub left_after_at : (body : Body) (own_writes : List Write) (values : Values) (key : Key) → left_after body own_writes values key ≡ left_at body own_writes key (values key)
+pub left_after_at : (body : Body) (own_writes : List Write) (values : Values) (key : Key)
+    → left_after body own_writes values key ≡ left_at body own_writes key (values key)
 left_after_at (Independent ops) own_writes values key = after_all_at ops values key
 left_after_at (Prelim ls) own_writes values key = written_at own_writes values key
 left_after_at (Commit keys writes) own_writes values key = refl
@@ -108,40 +110,52 @@ complete_acted Holds h = cc
 complete_acted Complete h = refl
 complete_acted Void h = cc
 
-one_before : (entry : Entry) (key : Key) (value : Option ℕ) (status : Status) → entry.status ≡ status → Lawful entry → (is_open status ≡ true → alters key (locks_in entry) ≡ false) → cond (is_complete status) (effect entry key value) value ≡ effect entry key value
+one_before : (entry : Entry) (key : Key) (value : Option ℕ) (status : Status) → entry.status ≡ status → Lawful entry
+    → (is_open status ≡ true → alters key (locks_in entry) ≡ false)
+    → cond (is_complete status) (effect entry key value) value ≡ effect entry key value
 one_before entry key value Waits is w a = sym (w.kept key value (a refl))
 one_before entry key value Holds is w a = sym (w.kept key value (a refl))
 one_before entry key value Complete is w a = refl
 one_before entry key value Void is w a = sym (w.void (ap is_void is) key value)
 
-pub current-append : (key : Key) (earlier following : List Entry) (value : Option ℕ) → current key (earlier ++ following) value ≡ current key following (current key earlier value)
+pub current-append : (key : Key) (earlier following : List Entry) (value : Option ℕ)
+    → current key (earlier ++ following) value ≡ current key following (current key earlier value)
 current-append key [] following value = refl
-current-append key (entry ∷ earlier) following value = current-append key earlier following (cond (is_complete entry.status) (effect entry key value) value)
+current-append key (entry ∷ earlier) following value =
+    current-append key earlier following (cond (is_complete entry.status) (effect entry key value) value)
 
-pub final-append : (key : Key) (earlier following : List Entry) (value : Option ℕ) → final key (earlier ++ following) value ≡ final key following (final key earlier value)
+pub final-append : (key : Key) (earlier following : List Entry) (value : Option ℕ)
+    → final key (earlier ++ following) value ≡ final key following (final key earlier value)
 final-append key [] following value = refl
 final-append key (entry ∷ earlier) following value = final-append key earlier following (effect entry key value)
 
 -- FOR ANY CONFLICT that is symmetric and without which two share only keys that both only read
 module _ (conflicts : List Lock → List Lock → Bool) (lawful : IsConflict conflicts) where
   -- at a key that the locks touch, later complete ones do nothing
-  pub current_later : (locks : List Lock) (entries : List Entry) (key : Key) (value : Option ℕ) → AllLawful entries → LaterApart conflicts locks entries → touches key locks ≡ true → current key entries value ≡ value
+  pub current_later : (locks : List Lock) (entries : List Entry) (key : Key) (value : Option ℕ) → AllLawful entries
+      → LaterApart conflicts locks entries → touches key locks ≡ true → current key entries value ≡ value
   current_later locks [] key value w a t = refl
-  current_later locks (entry ∷ entries) key value w a t = ap (current key entries) (here (cases_Bool (is_complete entry.status))) ∙ current_later locks entries key value w.1 a.1 t
+  current_later locks (entry ∷ entries) key value w a t =
+      ap (current key entries) (here (cases_Bool (is_complete entry.status))) ∙ current_later locks entries key value w.1 a.1 t
     where
-      here : ((is_complete entry.status ≡ true) ⊎ (is_complete entry.status ≡ false)) → cond (is_complete entry.status) (effect entry key value) value ≡ value
-      here (inl c) = cond-true _ _ _ c ∙ w.0.kept key value (lawful.reads_only locks (locks_in entry) key (a.0 (complete_acted entry.status c)) t)
+      here : ((is_complete entry.status ≡ true) ⊎ (is_complete entry.status ≡ false))
+          → cond (is_complete entry.status) (effect entry key value) value ≡ value
+      here (inl c) =
+          cond-true _ _ _ c
+          ∙ w.0.kept key value (lawful.reads_only locks (locks_in entry) key (a.0 (complete_acted entry.status c)) t)
       here (inr c) = cond-false _ _ _ c
 
   -- at a key that the locks touch, the complete ones before are as good as all
-  pub current_before : (entries : List Entry) (locks : List Lock) (key : Key) (value : Option ℕ) → AllLawful entries → OpenApart conflicts entries locks → touches key locks ≡ true → current key entries value ≡ final key entries value
+  pub current_before : (entries : List Entry) (locks : List Lock) (key : Key) (value : Option ℕ) → AllLawful entries
+      → OpenApart conflicts entries locks → touches key locks ≡ true → current key entries value ≡ final key entries value
   current_before [] locks key value w a t = refl
   current_before (entry ∷ entries) locks key value w a t =
       ap (current key entries) (one_before entry key value entry.status refl w.0 (λ o. lawful.reads_only locks (locks_in entry) key (lawful.symmetric locks (locks_in entry) ∙ a.0 o) t)) ∙ current_before entries locks key (effect entry key value) w.1 a.1 t
 
   -- WHAT AN UNBLOCKED TRANSACTION READS is what the plain run has at its point
   pub read_at_point : (earlier : List Entry) (entry : Entry) (following : List Entry) (key : Key) (value : Option ℕ)
-      → AllLawful earlier → AllLawful following → OpenApart conflicts earlier (locks_in entry) → LaterApart conflicts (locks_in entry) following → is_complete entry.status ≡ false → touches key (locks_in entry) ≡ true
+      → AllLawful earlier → AllLawful following → OpenApart conflicts earlier (locks_in entry)
+      → LaterApart conflicts (locks_in entry) following → is_complete entry.status ≡ false → touches key (locks_in entry) ≡ true
       → current key (earlier ++ entry ∷ following) value ≡ final key earlier value
   read_at_point earlier entry following key value lawful_entry well o l c t =
       current-append key earlier (entry ∷ following) value
@@ -164,7 +178,8 @@ module _ (conflicts : List Lock → List Lock → Bool) (lawful : IsConflict con
       right : current key (earlier ++ entry ∷ following) value ≡ current key following before
       right = current-append key earlier (entry ∷ following) value ∙ ap (current key following) (cond-false _ _ _ c)
 
-      by_cases : ((alters key (locks_in entry) ≡ true) ⊎ (alters key (locks_in entry) ≡ false)) → current key (earlier ++ with_status Complete entry ∷ following) value ≡ effect entry key (current key (earlier ++ entry ∷ following) value)
+      by_cases : ((alters key (locks_in entry) ≡ true) ⊎ (alters key (locks_in entry) ≡ false))
+          → current key (earlier ++ with_status Complete entry ∷ following) value ≡ effect entry key (current key (earlier ++ entry ∷ following) value)
       by_cases (inl a) =
           let t = touches_from_alters (locks_in entry) key a in
           let one = current_later (locks_in entry) following key (effect entry key before) well l t in

@@ -1,3 +1,4 @@
+-- The late answers to waiting preliminaries that are aborted.
 use Rattle.eris_base.specs.declared.ids.Phase.{Phase}
 use Rattle.eris_base.specs.declared.ids.Place.{Place}
 use Rattle.eris_base.specs.declared.ids.TxnId.{TxnId}
@@ -19,7 +20,8 @@ prelim_phase (Abort keys) h = cc
 
 -- what holds of the late answer to each waiting preliminary of that id
 pub each_aborted_late : (P : Done → Type 0) (at : Place) (id : TxnId) (waiters : List ShardPacket)
-    → (Each (λ waiter. is_prelim_of id waiter ≡ true → P (done at waiter Aborted true)) waiters) → Each P (aborted_late at id waiters)
+    → (Each (λ waiter. is_prelim_of id waiter ≡ true → P (done at waiter Aborted true)) waiters)
+    → Each P (aborted_late at id waiters)
 each_aborted_late P at id [] h = tt
 each_aborted_late P at id (waiter ∷ waiters) h = by_test (is_prelim_of id waiter) refl (each_aborted_late P at id waiters h.1)
   where

@@ -1,10 +1,11 @@
+-- A list of packets, step after step.
 use Rattle.eris_base.specs.declared.ids.ClientId.{ClientId}
 use Rattle.eris_base.specs.declared.ids.Place.{Place}
 use Rattle.eris_base.specs.declared.ids.TxnId.{TxnId}
 use Rattle.eris_lock_law.proofs.Arrive.{Next, arrive_right}
 use Rattle.eris_lock_law.proofs.Conclude.{conclude_right}
 use Rattle.eris_lock_law.proofs.Each.{Each-append}
-use Rattle.eris_lock_law.proofs.Fit.{Fit, Plain, reached, waiting_in}
+use Rattle.eris_lock_law.proofs.Fit.{Fit, Plain, waiting_in}
 use Rattle.eris_lock_law.proofs.Keys.{on_key_kept, put_on_kept}
 use Rattle.eris_lock_law.proofs.Log.{Entry}
 use Rattle.eris_lock_law.proofs.Release.{GoodDone}
@@ -25,13 +26,15 @@ use Rattle.std.proofs.lemmas.Bool.{both_ways}
 
 abbrev pub GoesWellHere : (TxnId → Bool) → StoreState → TxnId → List ShardPacket → Body → Type 0
 GoesWellHere kind state id packets (Independent ops) = kind id ≡ false
-GoesWellHere kind state id packets (Prelim ls) = (kind id ≡ true) × Each (λ write. alters write.key ls ≡ true) (writes_in id packets)
+GoesWellHere kind state id packets (Prelim ls) =
+    (kind id ≡ true) × Each (λ write. alters write.key ls ≡ true) (writes_in id packets)
 GoesWellHere kind state id packets (Commit keys writes) = state.decided id ≡ None → holds id state.holding ≡ true
 GoesWellHere kind state id packets (Abort keys) = Unit {0}
 
 abbrev pub GoesWell : (TxnId → Bool) → StoreState → List ShardPacket → Type 0
 GoesWell kind state [] = Unit {0}
-GoesWell kind state (packet ∷ packets) = GoesWellHere kind state packet.id packets packet.body × GoesWell kind (step state packet).state packets
+GoesWell kind state (packet ∷ packets) =
+    GoesWellHere kind state packet.id packets packet.body × GoesWell kind (step state packet).state packets
 
 step_right : (all : Plain) (kind : TxnId → Bool) (packets : List ShardPacket) (values : Values) (seen decided : List TxnId) (at : Place) (asker : ClientId) (id : TxnId) (body : Body) (state : StoreState) (entries : List Entry)
     → GoesWellHere kind state id packets body
@@ -53,11 +56,14 @@ pub record Ended (all : Plain) (kind : TxnId → Bool) (state : StoreState) (don
   pub next : Next all kind [] (record { state = state; dones = [] })
 
 pub run_right : (packets : List ShardPacket) (all : Plain) (kind : TxnId → Bool) (values : Values) (seen decided : List TxnId) (state : StoreState) (entries : List Entry)
-    → GoesWell kind state packets → Fit (record { all = all; kind = kind; rest = packets; reached = values; seen = seen; decided = decided }) state entries → state.waiting ≡ waiting_in entries
+    → GoesWell kind state packets
+    → Fit (record { all = all; kind = kind; rest = packets; reached = values; seen = seen; decided = decided }) state entries
+    → state.waiting ≡ waiting_in entries
     → Ended all kind (run_state state packets) (run_dones state packets)
 run_right [] all kind values seen decided state entries well fit waiting = record {
   good = tt;
-  next = record { reached_now = values; seen_now = seen; decided_now = decided; right = record { log = entries; fit = fit; waiting = waiting; good = tt } };
+  next =
+      record { reached_now = values; seen_now = seen; decided_now = decided; right = record { log = entries; fit = fit; waiting = waiting; good = tt } };
 }
 run_right (packet ∷ packets) all kind values seen decided state entries well fit waiting =
     let n = step_right all kind packets values seen decided packet.at packet.asker packet.id packet.body state entries well.0 fit waiting in
@@ -65,10 +71,12 @@ run_right (packet ∷ packets) all kind values seen decided state entries well f
     record { good = Each-append _ (step state packet).dones (run_dones (step state packet).state packets) n.right.good r.good; next = r.next }
 
 abbrev pub plain : List ShardPacket → Plain
-plain packets = record { run = plain_run no_values [] [] packets; outcome = λ i. outcome_in i packets; values = plain_values no_values [] [] packets }
+plain packets =
+    record { run = plain_run no_values [] [] packets; outcome = λ i. outcome_in i packets; values = plain_values no_values [] [] packets }
 
 -- THE LAW, for the whole list
-pub law_from : (packets : List ShardPacket) (kind : TxnId → Bool) → GoesWell kind empty packets → Ended (plain packets) kind (run_state empty packets) (run_dones empty packets)
+pub law_from : (packets : List ShardPacket) (kind : TxnId → Bool) → GoesWell kind empty packets
+    → Ended (plain packets) kind (run_state empty packets) (run_dones empty packets)
 law_from packets kind well = run_right packets (plain packets) kind no_values [] [] empty [] well
     (record {
       values = λ x. refl;
@@ -92,6 +100,9 @@ law_from packets kind well = run_right packets (plain packets) kind no_values []
     no answer h = cc
 
 -- the answers of a list are those of a beginning and then of its rest
-pub dones_of_prefix : (packets rest : List ShardPacket) (state : StoreState) → run_dones state (packets ++ rest) ≡ run_dones state packets ++ run_dones (run_state state packets) rest
+pub dones_of_prefix : (packets rest : List ShardPacket) (state : StoreState)
+    → run_dones state (packets ++ rest) ≡ run_dones state packets ++ run_dones (run_state state packets) rest
 dones_of_prefix [] rest state = refl
-dones_of_prefix (packet ∷ packets) rest state = ap (λ t. (step state packet).dones ++ t) (dones_of_prefix packets rest (step state packet).state) ∙ sym (append_assoc (step state packet).dones (run_dones (step state packet).state packets) (run_dones (run_state state (packet ∷ packets)) rest))
+dones_of_prefix (packet ∷ packets) rest state =
+    ap (λ t. (step state packet).dones ++ t) (dones_of_prefix packets rest (step state packet).state)
+    ∙ sym (append_assoc (step state packet).dones (run_dones (step state packet).state packets) (run_dones (run_state state (packet ∷ packets)) rest))

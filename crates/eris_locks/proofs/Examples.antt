@@ -1,5 +1,5 @@
 -- Lists of packets with the answers that the lock table gives, and those of the plain run.
-use Rattle.std.specs.Prelude.{◌≡◌, ℕ, Bool, true, false, Option, Some, None, List, [], ◌∷◌, refl}
+use Rattle.std.specs.Prelude.{◌≡◌, ℕ, true, false, Some, None, List, [], ◌∷◌, refl}
 use Rattle.eris_base.specs.declared.ids.ClientId.{ClientId}
 use Rattle.eris_base.specs.declared.ids.Phase.{Phase}
 use Rattle.eris_base.specs.declared.ids.Place.{Place}
@@ -10,13 +10,12 @@ use Rattle.eris_txn.specs.declared.body.Body.TheVariants.{Independent, Prelim, C
 use Rattle.eris_txn.specs.declared.key.Key.{Key}
 use Rattle.eris_txn.specs.declared.lock.Lock.{Lock}
 use Rattle.eris_txn.specs.declared.lock.Mode.TheVariants.{Shared, Exclusive}
-use Rattle.eris_txn.specs.declared.op.Op.{Op}
 use Rattle.eris_txn.specs.declared.op.Op.TheVariants.{Get, Put, Add}
 use Rattle.eris_txn.specs.declared.op.OpAnswer.{OpAnswer}
 use Rattle.eris_txn.specs.Keys.{same_key}
 use Rattle.eris_locks.specs.declared.done.Done.{Done}
 use Rattle.eris_locks.specs.declared.shard_packet.ShardPacket.{ShardPacket}
-use Rattle.eris_locks.specs.Law.{plain_answers, plain_end}
+use Rattle.eris_locks.specs.Law.{plain_answers}
 use Rattle.eris_locks.specs.Locks.{conflict}
 use Rattle.eris_locks.specs.LockTable.{run_dones, run_state}
 use Rattle.eris_locks.specs.ShardRun.{Served}

@@ -1,4 +1,4 @@
-use Rattle.std.specs.Prelude.{Bool, true, false, Option, Some, None, List, [], ◌∷◌, ◌++◌, ◌&&◌, map}
+use Rattle.std.specs.Prelude.{Bool, true, false, Some, None, List, [], ◌∷◌, ◌++◌, ◌&&◌, map}
 use Rattle.std.specs.List.{list_any}
 use Rattle.eris_base.specs.declared.ids.Phase.{Phase}
 use Rattle.eris_base.specs.declared.ids.Place.{Place}
@@ -15,7 +15,7 @@ use Rattle.eris_locks.specs.declared.done.Done.{Done}
 use Rattle.eris_locks.specs.declared.held.Held.{Held}
 use Rattle.eris_locks.specs.declared.shard_packet.ShardPacket.{ShardPacket}
 use Rattle.eris_locks.specs.Locks.{locks_of}
-use Rattle.eris_locks.specs.States.{StoreState, phase_of, is_prelim, note, decide, is_decided, holds, no_longer_holding, waits, is_prelim_of, no_longer_waiting, blocked, empty}
+use Rattle.eris_locks.specs.States.{StoreState, phase_of, is_prelim, note, decide, is_decided, holds, no_longer_holding, waits, is_prelim_of, no_longer_waiting, blocked}
 
 -- what a packet answers over these values
 abbrev pub answer_of : Body → Values → Answer

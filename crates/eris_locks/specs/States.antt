@@ -1,4 +1,4 @@
-use Rattle.std.specs.Prelude.{Bool, true, false, Option, Some, None, List, [], ◌∷◌, ◌&&◌, ◌||◌, not, if◌then◌else◌}
+use Rattle.std.specs.Prelude.{Bool, true, false, Option, Some, None, List, [], ◌&&◌, ◌||◌, not, if◌then◌else◌}
 use Rattle.std.specs.List.{filter, list_any}
 use Rattle.eris_base.specs.declared.ids.Phase.{Phase}
 use Rattle.eris_base.specs.declared.ids.TxnId.{TxnId}

@@ -1,3 +1,4 @@
+use Rattle.eris_lock_law.proofs.InPart.{said_in_part}
 use Rattle.eris_lock_law.proofs.Keys.{modes_conflict}
 use Rattle.eris_lock_law.proofs.Final.{answers_right, beginning_right, values_right, waiting_none}
 use Rattle.eris_lock_law.proofs.law.answers_as_if_alone.Goals as goal
@@ -7,6 +8,9 @@ returns-clause-answers c = answers_right
 
 pub returns-clause-beginning : goal.returns-clause-beginning
 returns-clause-beginning c = beginning_right
+
+pub returns-clause-said_in_time : goal.returns-clause-said_in_time
+returns-clause-said_in_time c = λ packets rest id values well has said. said_in_part id values packets rest well has said
 
 pub returns-clause-nothing_waits : goal.returns-clause-nothing_waits
 returns-clause-nothing_waits c = waiting_none

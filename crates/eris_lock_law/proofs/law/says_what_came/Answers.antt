@@ -2,6 +2,7 @@ use Rattle.std.proofs.Common.{[], refl}
 use Rattle.eris_lock_law.proofs.Lost.{said_finds}
 use Rattle.eris_lock_law.proofs.Once.{each_once, stands_once, never_aborted}
 use Rattle.eris_lock_law.proofs.SaidFrom.{said_from}
+use Rattle.eris_lock_law.proofs.Unrecorded.{conclusion_unrecorded}
 use Rattle.eris_lock_law.proofs.law.says_what_came.Goals as goal
 use Rattle.eris_txn.specs.declared.answer.Answer.{Answer}
 use Rattle.eris_txn.specs.Keys.{no_values}
@@ -11,6 +12,9 @@ returns-clause-came c = λ packets id phase answer said. said_from id phase answ
 
 pub returns-clause-finds : goal.returns-clause-finds
 returns-clause-finds c = λ before rest conclusory values concludes said. said_finds conclusory.id (Answer.Values values) before rest conclusory refl concludes refl said
+
+pub returns-clause-unrecorded : goal.returns-clause-unrecorded
+returns-clause-unrecorded c = conclusion_unrecorded
 
 pub returns-clause-once : goal.returns-clause-once
 returns-clause-once c = λ packets. each_once packets no_values [] []
