@@ -14,7 +14,7 @@ use Rattle.eris_audit.specs.declared.outcome.Outcome.{Outcome}
 use Rattle.eris_audit.specs.declared.outcome.Outcome.TheVariants.{Done, Committed, Aborted, Pending}
 use Rattle.eris_audit.specs.IsSerial.{IsSerial}
 use Rattle.eris_audit.specs.Lines.{Line}
-use Rattle.eris_audit.specs.TxnIds.{same_id}
+use Rattle.eris_base.specs.TxnIds.{same_id}
 
 -- Small histories that are serial in an order, and others that are not.
 

@@ -5,7 +5,7 @@ use Rattle.eris_txn.specs.declared.answer.Answer.{Answer}
 use Rattle.eris_txn.specs.declared.history.HistoryEvent.{HistoryEvent}
 use Rattle.eris_txn.specs.declared.history.HistoryEvent.TheVariants.{Submit, Read, Answer as Answered, Told}
 use Rattle.eris_txn.specs.declared.txn.Txn.{Txn}
-use Rattle.eris_audit.specs.Each.{EachAfter}
+use Rattle.eris_base.specs.Each.{EachAfter}
 use Rattle.eris_audit.specs.IsSerial.{AnsweredStandsBefore, FollowsAnswered}
 use Rattle.eris_audit.specs.Lines.{Line, has_line, stands_before}
 use Rattle.eris_audit.proofs.Places.{Each-at, Each-from, EachAfter-at, EachAfter-from}

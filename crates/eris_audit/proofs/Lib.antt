@@ -2,4 +2,9 @@ pub mod Examples
 pub mod Follows
 pub mod Places
 pub mod RunPlaces
-pub mod SameIds
+pub mod Verdicts
+pub mod TableLines
+pub mod SubmitTable
+pub mod Finds
+pub mod SerialSteps
+pub mod Turns

@@ -1,6 +1,6 @@
 use Rattle.std.proofs.Common.{◌≡◌, List, [], ◌∷◌, ◌++◌, refl, ap, sym, subst, append_assoc}
 use Rattle.std.proofs.lemmas.List.{append-nil}
-use Rattle.eris_audit.specs.Each.{Each, EachAfter}
+use Rattle.eris_base.specs.Each.{Each, EachAfter}
 
 -- The properties of each item, as properties of each place of a list: `front ++ x ∷ back`.
 

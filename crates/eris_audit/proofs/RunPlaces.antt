@@ -5,13 +5,13 @@ use Rattle.eris_base.specs.declared.ids.TxnId.{TxnId}
 use Rattle.eris_txn.specs.declared.history.HistoryEvent.{HistoryEvent}
 use Rattle.eris_txn.specs.declared.txn.Txn.{Txn}
 use Rattle.eris_txn.specs.Keys.{Values}
-use Rattle.eris_audit.specs.Each.{EachAfter}
+use Rattle.eris_base.specs.Each.{EachAfter}
 use Rattle.eris_audit.specs.IsSerial.{IsOrderLine}
 use Rattle.eris_audit.specs.Lines.{Line, has_line, outcome_in, stands_before}
 use Rattle.eris_audit.specs.SerialRun.{left_by_txn, result_of, values_after, result_in}
-use Rattle.eris_audit.specs.TxnIds.{same_id}
+use Rattle.eris_base.specs.TxnIds.{same_id}
 use Rattle.eris_audit.proofs.Places.{EachAfter-at}
-use Rattle.eris_audit.proofs.SameIds.{same_id-true, same_id-refl}
+use Rattle.eris_base.proofs.TxnIdLaws.{same_id-true, same_id-refl}
 
 -- What the order and the serial run have for an id, at the place of its line.
 

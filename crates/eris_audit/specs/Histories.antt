@@ -4,7 +4,7 @@ use Rattle.eris_txn.specs.declared.history.HistoryEvent.{HistoryEvent}
 use Rattle.eris_txn.specs.declared.history.HistoryEvent.TheVariants.{Submit}
 use Rattle.eris_txn.specs.declared.txn.Txn.{Txn}
 use Rattle.eris_txn.specs.declared.txn.Txn.TheVariants.{Whole}
-use Rattle.eris_audit.specs.TxnIds.{same_id}
+use Rattle.eris_base.specs.TxnIds.{same_id}
 
 -- the transaction of an id's first submit
 abbrev pub first_submit : List HistoryEvent → TxnId → Option Txn

@@ -8,7 +8,7 @@ use Rattle.eris_txn.specs.declared.txn.Txn.TheVariants.{Whole, General}
 use Rattle.eris_txn.specs.Keys.{no_values}
 use Rattle.eris_txn.specs.Plans.{guards_hold}
 use Rattle.eris_audit.specs.declared.outcome.Outcome.{Outcome}
-use Rattle.eris_audit.specs.Each.{Each, EachAfter}
+use Rattle.eris_base.specs.Each.{Each, EachAfter}
 use Rattle.eris_audit.specs.Histories.{is_submitted, txn_of}
 use Rattle.eris_audit.specs.Lines.{Line, has_line, outcome_in, stands_before}
 use Rattle.eris_audit.specs.SerialRun.{guards_of, values_after, result_in}

@@ -1,6 +1,8 @@
-pub mod Each
 pub mod Histories
 pub mod IsSerial
 pub mod Lines
 pub mod SerialRun
-pub mod TxnIds
+pub mod Stores
+pub mod Verdicts
+pub mod Tables
+pub mod Turns

@@ -1,5 +1,6 @@
 pub mod ConfigLimits
 pub mod Configs
+pub mod Each
 pub mod Faults
 pub mod MemoryStreams
 pub mod Places
@@ -7,3 +8,4 @@ pub mod Quorums
 pub mod StampPlaces
 pub mod Stamps
 pub mod Transfers
+pub mod TxnIds

@@ -3,12 +3,12 @@ use Rattle.eris_base.specs.declared.ids.ClientId.{ClientId}
 use Rattle.eris_base.specs.declared.ids.Phase.{Phase}
 use Rattle.eris_base.specs.declared.ids.Place.{Place}
 use Rattle.eris_base.specs.declared.ids.TxnId.{TxnId}
-use Rattle.eris_lock_law.proofs.Each.{Each-changed, Each-left, Each-right, Each-weaker}
+use Rattle.eris_base.proofs.Each.{Each-changed, Each-left, Each-right, Each-weaker}
 use Rattle.eris_lock_law.proofs.Fit.{EntryFit, Fit, Good, Point, SameSet, StandsIn-append_left, distinct_changed, entry_of, has_id_changed, holder_of, holding_in, holding_in-append, known_here, known_noted, logged_answers_changed, logged_answers_has, logged_noted, reached, reached_changed, read_answer, ruled_noted, sound_noted, unblocked, waiting_in}
 use Rattle.eris_lock_law.proofs.Keys.{after_all_at, modes_conflict, on_key}
 use Rattle.eris_lock_law.proofs.Log.{AllLawful, Complete, Entry, Holds, InOrder, LaterApart, Lawful, OpenApart, Status, Void, Waits, current, current-append, left_in_place, with_status}
 use Rattle.eris_lock_law.proofs.Order.{order_changed, order_later}
-use Rattle.eris_locks.specs.Each.{Each}
+use Rattle.eris_base.specs.Each.{Each}
 use Rattle.eris_locks.specs.Law.{StandsIn}
 use Rattle.eris_locks.specs.LockTable.{answer_of, execute, holding_after, values_after}
 use Rattle.eris_locks.specs.Locks.{conflict, locks_of}

@@ -3,17 +3,17 @@
 use Rattle.eris_base.specs.declared.ids.Phase.{Phase}
 use Rattle.eris_base.specs.declared.ids.Place.{Place}
 use Rattle.eris_base.specs.declared.ids.TxnId.{TxnId}
-use Rattle.eris_lock_law.proofs.Each.{Each-append, Each-filter, Each-left, Each-right}
+use Rattle.eris_base.proofs.Each.{Each-append, Each-filter, Each-left, Each-right}
 use Rattle.eris_lock_law.proofs.Early.{held_executed}
 use Rattle.eris_lock_law.proofs.Fit.{known_noted}
-use Rattle.eris_lock_law.proofs.Ids.{same_id-true, same_id-turned}
+use Rattle.eris_base.proofs.TxnIdLaws.{same_id-true, same_id-turned}
 use Rattle.eris_lock_law.proofs.Prelims.{prelim_phase}
 use Rattle.eris_lock_law.proofs.SaidFrom.{fewer}
-use Rattle.eris_locks.specs.Each.{Each}
+use Rattle.eris_base.specs.Each.{Each}
 use Rattle.eris_locks.specs.LockTable.{Stepped, aborted_late, all_also, also, answer_of, arrive, arrive_new, conclude, done, end_holding, end_waiting, execute, nothing_done, only, release, run_state, step, step_by}
 use Rattle.eris_locks.specs.Locks.{locks_of}
 use Rattle.eris_locks.specs.States.{StoreState, blocked, decide, empty, holds, is_decided, is_prelim, is_prelim_of, no_longer_waiting, note, phase_of, same_phase, waits}
-use Rattle.eris_locks.specs.TxnIds.{same_id}
+use Rattle.eris_base.specs.TxnIds.{same_id}
 use Rattle.eris_locks.specs.declared.shard_packet.ShardPacket.{ShardPacket}
 use Rattle.eris_txn.specs.declared.answer.Answer.{Answer}
 use Rattle.eris_txn.specs.declared.answer.Answer.TheVariants.{Aborted, Committed}

@@ -4,18 +4,18 @@ use Rattle.eris_base.specs.declared.ids.Phase.{Phase}
 use Rattle.eris_base.specs.declared.ids.Place.{Place}
 use Rattle.eris_base.specs.declared.ids.TxnId.{TxnId}
 use Rattle.eris_lock_law.proofs.Act.{act, acted, any_holding_in, fit_noted}
-use Rattle.eris_lock_law.proofs.Each.{Each-append, Each-weaker}
+use Rattle.eris_base.proofs.Each.{Each-append, Each-weaker}
 use Rattle.eris_lock_law.proofs.Fit.{Distinct, EntryFit, Fit, Good, Plain, Point, entry_of, has_id, holding_in, is_holding, is_known, is_waiting, known_here, logged_answers, logged_noted, reached, ruled_noted, served_at, sound_noted, waiting_in, waiting_in-append}
-use Rattle.eris_lock_law.proofs.Ids.{same_id-true, same_id-turned}
+use Rattle.eris_base.proofs.TxnIdLaws.{same_id-true, same_id-turned}
 use Rattle.eris_lock_law.proofs.Log.{Complete, Entry, Holds, Status, Void, Waits, current-append, effect, has_acted, is_complete, is_open, left_at}
 use Rattle.eris_lock_law.proofs.Order.{order_added}
 use Rattle.eris_lock_law.proofs.Release.{Right, acts_on, passed, rewait}
-use Rattle.eris_locks.specs.Each.{Each}
+use Rattle.eris_base.specs.Each.{Each}
 use Rattle.eris_locks.specs.LockTable.{Stepped, answer_of, arrive, arrive_new}
 use Rattle.eris_locks.specs.Locks.{alters, conflict, locks_of}
 use Rattle.eris_locks.specs.ShardRun.{Served, left_after, outcome_in, plain_run, plain_values, writes_in}
 use Rattle.eris_locks.specs.States.{StoreState, blocked, is_conclusory, is_decided, is_prelim, note, phase_of, waits}
-use Rattle.eris_locks.specs.TxnIds.{is_among, same_id}
+use Rattle.eris_base.specs.TxnIds.{is_among, same_id}
 use Rattle.eris_locks.specs.declared.shard_packet.ShardPacket.{ShardPacket}
 use Rattle.eris_txn.specs.Keys.{Values, no_values}
 use Rattle.eris_txn.specs.declared.answer.Answer.{Answer}

@@ -5,20 +5,20 @@ use Rattle.eris_base.specs.declared.ids.Place.{Place}
 use Rattle.eris_base.specs.declared.ids.TxnId.{TxnId}
 use Rattle.eris_lock_law.proofs.Act.{any_holding_in, fit_noted, lawful_of}
 use Rattle.eris_lock_law.proofs.Arrive.{Next, fit_rest, phase_is}
-use Rattle.eris_lock_law.proofs.Each.{Each-append, Each-left, Each-right, Each-weaker, Each-with}
+use Rattle.eris_base.proofs.Each.{Each-append, Each-left, Each-right, Each-weaker, Each-with}
 use Rattle.eris_lock_law.proofs.Fit.{Distinct, EntryFit, Fit, Good, Plain, Point, distinct_changed, entry_of, has_id_changed, holder_of, holding_in, is_holding, is_known, is_waiting, known_here, logged_answers, logged_answers_changed, logged_noted, reached_changed, ruled_noted, sound_noted, waiting_in, waiting_in-append}
-use Rattle.eris_lock_law.proofs.Ids.{same_id-from, same_id-true, same_id-turned}
+use Rattle.eris_base.proofs.TxnIdLaws.{same_id-from, same_id-true, same_id-turned}
 use Rattle.eris_lock_law.proofs.Keys.{modes_conflict, put_on, written_at}
 use Rattle.eris_lock_law.proofs.Log.{Complete, Entry, Holds, Lawful, Status, Void, Waits, current, current-append, is_open, left_at, left_in_place, with_status}
 use Rattle.eris_lock_law.proofs.Order.{order_before, order_changed, order_later}
 use Rattle.eris_lock_law.proofs.Prelims.{each_aborted_late, prelim_phase}
 use Rattle.eris_lock_law.proofs.Release.{GoodDone, Right, release_right}
-use Rattle.eris_locks.specs.Each.{Each}
+use Rattle.eris_base.specs.Each.{Each}
 use Rattle.eris_locks.specs.LockTable.{Stepped, aborted_late, all_also, also, conclude, conclude_first, done, release}
 use Rattle.eris_locks.specs.Locks.{conflict}
 use Rattle.eris_locks.specs.ShardRun.{outcome_in, plain_run, plain_values, writes_in}
 use Rattle.eris_locks.specs.States.{StoreState, decide, holds, is_conclusory, is_prelim, is_prelim_of, no_longer_holding, no_longer_waiting, note, phase_of}
-use Rattle.eris_locks.specs.TxnIds.{is_among, same_id}
+use Rattle.eris_base.specs.TxnIds.{is_among, same_id}
 use Rattle.eris_locks.specs.declared.done.Done.{Done}
 use Rattle.eris_locks.specs.declared.held.Held.{Held}
 use Rattle.eris_locks.specs.declared.shard_packet.ShardPacket.{ShardPacket}

@@ -2,16 +2,16 @@
 use Rattle.eris_base.specs.declared.ids.Phase.{Phase}
 use Rattle.eris_base.specs.declared.ids.Place.{Place}
 use Rattle.eris_base.specs.declared.ids.TxnId.{TxnId}
-use Rattle.eris_lock_law.proofs.Each.{Each-append, Each-filter, Each-left, Each-right}
+use Rattle.eris_base.proofs.Each.{Each-append, Each-filter, Each-left, Each-right}
 use Rattle.eris_lock_law.proofs.Fit.{known_here, known_noted, same_phases}
-use Rattle.eris_lock_law.proofs.Ids.{same_id-true}
+use Rattle.eris_base.proofs.TxnIdLaws.{same_id-true}
 use Rattle.eris_lock_law.proofs.Prelims.{each_aborted_late, prelim_phase}
 use Rattle.eris_lock_law.proofs.SaidFrom.{fewer}
-use Rattle.eris_locks.specs.Each.{Each}
+use Rattle.eris_base.specs.Each.{Each}
 use Rattle.eris_locks.specs.LockTable.{Stepped, aborted_late, all_also, also, answer_of, arrive, arrive_new, conclude, conclude_first, done, end_holding, end_waiting, execute, holding_after, nothing_done, only, release, step, step_by}
 use Rattle.eris_locks.specs.Locks.{locks_of}
 use Rattle.eris_locks.specs.States.{StoreState, blocked, decide, holds, is_conclusory, is_decided, is_prelim, is_prelim_of, no_longer_waiting, note, phase_of, same_phase, waits}
-use Rattle.eris_locks.specs.TxnIds.{same_id}
+use Rattle.eris_base.specs.TxnIds.{same_id}
 use Rattle.eris_locks.specs.declared.done.Done.{Done}
 use Rattle.eris_locks.specs.declared.held.Held.{Held}
 use Rattle.eris_locks.specs.declared.shard_packet.ShardPacket.{ShardPacket}

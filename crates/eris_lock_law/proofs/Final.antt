@@ -2,7 +2,7 @@
 use Rattle.eris_base.specs.declared.ids.Phase.{Phase}
 use Rattle.eris_base.specs.declared.ids.TxnId.{TxnId}
 use Rattle.eris_lock_law.proofs.Act.{lawful_of}
-use Rattle.eris_lock_law.proofs.Each.{Each-left, Each-weaker, Each-with}
+use Rattle.eris_base.proofs.Each.{Each-left, Each-weaker, Each-with}
 use Rattle.eris_lock_law.proofs.Early.{EarlyDone}
 use Rattle.eris_lock_law.proofs.Ended.{early_answers}
 use Rattle.eris_lock_law.proofs.Fit.{Good, holder_of, holding_in, is_holding, is_waiting, reached_at, waiting_in}
@@ -12,7 +12,7 @@ use Rattle.eris_lock_law.proofs.Release.{GoodDone}
 use Rattle.eris_lock_law.proofs.Runs.{dones_of_prefix, law_from, plain}
 use Rattle.eris_lock_law.proofs.Shape.{goes_well, kind_of, kinds_of}
 use Rattle.eris_lock_law.proofs.Stuck.{none_waits, run_stuck}
-use Rattle.eris_locks.specs.Each.{Each}
+use Rattle.eris_base.specs.Each.{Each}
 use Rattle.eris_locks.specs.Law.{EndedEarly, IsRight, IsRightDone, Said, plain_end}
 use Rattle.eris_locks.specs.LockTable.{run_dones, run_state}
 use Rattle.eris_locks.specs.States.{empty}

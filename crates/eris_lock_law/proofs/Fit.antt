@@ -3,17 +3,17 @@ use Rattle.eris_base.specs.declared.ids.ClientId.{ClientId}
 use Rattle.eris_base.specs.declared.ids.Phase.{Phase}
 use Rattle.eris_base.specs.declared.ids.Place.{Place}
 use Rattle.eris_base.specs.declared.ids.TxnId.{TxnId}
-use Rattle.eris_lock_law.proofs.Each.{Each-changed, Each-right}
-use Rattle.eris_lock_law.proofs.Ids.{same_id-from, same_id-true, same_id-turned}
+use Rattle.eris_base.proofs.Each.{Each-changed, Each-right}
+use Rattle.eris_base.proofs.TxnIdLaws.{same_id-from, same_id-true, same_id-turned}
 use Rattle.eris_lock_law.proofs.Keys.{answers_agree, modes_conflict, reads_agree}
 use Rattle.eris_lock_law.proofs.Log.{AllLawful, Complete, Entry, Holds, InOrder, LaterApart, Lawful, OpenApart, Status, Void, Waits, current, final, is_open, left_after_at, locks_in, read_at_point, with_status}
-use Rattle.eris_locks.specs.Each.{Each}
+use Rattle.eris_base.specs.Each.{Each}
 use Rattle.eris_locks.specs.Law.{StandsIn}
 use Rattle.eris_locks.specs.LockTable.{answer_of}
 use Rattle.eris_locks.specs.Locks.{conflict, locks_of}
 use Rattle.eris_locks.specs.ShardRun.{Served, left_after, outcome_in, plain_run, plain_values, writes_in}
 use Rattle.eris_locks.specs.States.{StoreState, blocked, is_conclusory, is_decided, is_prelim, note, phase_of, same_phase}
-use Rattle.eris_locks.specs.TxnIds.{is_among, same_id}
+use Rattle.eris_base.specs.TxnIds.{is_among, same_id}
 use Rattle.eris_locks.specs.declared.held.Held.{Held}
 use Rattle.eris_locks.specs.declared.shard_packet.ShardPacket.{ShardPacket}
 use Rattle.eris_txn.specs.Keys.{Values, no_values}

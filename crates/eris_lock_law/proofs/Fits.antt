@@ -4,10 +4,10 @@ use Rattle.std.proofs.lemmas.Bool.{both_ways}
 use Rattle.eris_base.specs.declared.ids.TxnId.{TxnId}
 use Rattle.eris_txn.specs.Keys.{same_key}
 use Rattle.eris_locks.specs.Locks.{conflict}
-use Rattle.eris_locks.specs.TxnIds.{same_id}
+use Rattle.eris_base.specs.TxnIds.{same_id}
 use Rattle.eris_locks.specs.WellFormed.{WellFormed}
 use Rattle.eris_locks.proofs.Examples.{read_behind_a_lock, txn}
-use Rattle.eris_lock_law.proofs.Ids.{same_id-from}
+use Rattle.eris_base.proofs.TxnIdLaws.{same_id-from}
 
 differ : (some other : TxnId) → same_id some other ≡ false → some ≡ other → ⊥
 differ some other test equal = both_ways _ test (same_id-from some other equal)

@@ -3,22 +3,22 @@
 use Rattle.eris_base.specs.declared.ids.Phase.{Phase}
 use Rattle.eris_base.specs.declared.ids.Place.{Place}
 use Rattle.eris_base.specs.declared.ids.TxnId.{TxnId}
-use Rattle.eris_lock_law.proofs.Each.{Each-left, Each-right}
+use Rattle.eris_base.proofs.Each.{Each-left, Each-right}
 use Rattle.eris_lock_law.proofs.Final.{all_said, answers_right}
 use Rattle.eris_lock_law.proofs.Fit.{same_phases}
-use Rattle.eris_lock_law.proofs.Ids.{same_id-from, same_id-true}
+use Rattle.eris_base.proofs.TxnIdLaws.{same_id-from, same_id-true}
 use Rattle.eris_lock_law.proofs.Lost.{said_finds}
 use Rattle.eris_lock_law.proofs.Once.{answer_to, stands_once}
 use Rattle.eris_lock_law.proofs.Prelims.{prelim_phase}
 use Rattle.eris_lock_law.proofs.Runs.{dones_of_prefix}
 use Rattle.eris_lock_law.proofs.SaidFrom.{fewer, ran}
-use Rattle.eris_locks.specs.Each.{Each}
+use Rattle.eris_base.specs.Each.{Each}
 use Rattle.eris_locks.specs.Law.{HasPacket, HoldsOrDecided, IsRight, IsRightDone, Said, StandsIn}
 use Rattle.eris_locks.specs.LockTable.{Stepped, aborted_late, all_also, also, answer_of, arrive, arrive_new, conclude, conclude_first, done, end_holding, end_waiting, execute, holding_after, only, release, run_dones, run_state, step, step_by}
 use Rattle.eris_locks.specs.Locks.{locks_of}
 use Rattle.eris_locks.specs.ShardRun.{plain_run}
 use Rattle.eris_locks.specs.States.{StoreState, blocked, decide, empty, holds, is_decided, is_prelim, is_prelim_of, no_longer_waiting, note, phase_of, same_phase, waits}
-use Rattle.eris_locks.specs.TxnIds.{same_id}
+use Rattle.eris_base.specs.TxnIds.{same_id}
 use Rattle.eris_locks.specs.WellFormed.{WellFormed}
 use Rattle.eris_locks.specs.declared.done.Done.{Done}
 use Rattle.eris_locks.specs.declared.held.Held.{Held}

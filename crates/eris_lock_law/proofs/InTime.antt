@@ -2,7 +2,7 @@
 use Rattle.eris_base.specs.declared.ids.Phase.{Phase}
 use Rattle.eris_base.specs.declared.ids.TxnId.{TxnId}
 use Rattle.eris_lock_law.proofs.Apart.{holder_waits_not}
-use Rattle.eris_lock_law.proofs.Ids.{same_id-from}
+use Rattle.eris_base.proofs.TxnIdLaws.{same_id-from}
 use Rattle.eris_lock_law.proofs.Lost.{said_finds}
 use Rattle.eris_lock_law.proofs.Once.{never_aborted}
 use Rattle.eris_lock_law.proofs.SaidFrom.{is_granted, ran}
@@ -10,7 +10,7 @@ use Rattle.eris_locks.specs.Law.{EndedEarly, HasPacket, IsPlain, Said}
 use Rattle.eris_locks.specs.LockTable.{run_dones, run_state}
 use Rattle.eris_locks.specs.ShardRun.{outcome_by, outcome_in}
 use Rattle.eris_locks.specs.States.{empty, holds, is_prelim, is_prelim_of, phase_of}
-use Rattle.eris_locks.specs.TxnIds.{same_id}
+use Rattle.eris_base.specs.TxnIds.{same_id}
 use Rattle.eris_locks.specs.declared.shard_packet.ShardPacket.{ShardPacket}
 use Rattle.eris_txn.specs.Keys.{no_values}
 use Rattle.eris_txn.specs.declared.answer.Answer.{Answer}

@@ -1,5 +1,5 @@
 -- What operations, writes and locks do at one key; and lock modes are a conflict.
-use Rattle.eris_locks.specs.Each.{Each}
+use Rattle.eris_base.specs.Each.{Each}
 use Rattle.eris_locks.specs.Locks.{IsConflict, alters, clash, conflict, is_exclusive, lock_of, mode_of, touches}
 use Rattle.eris_txn.proofs.KeyLaws.{same_key-refl, same_key-symm, same_key-true}
 use Rattle.eris_txn.specs.Keys.{Values, same_key}

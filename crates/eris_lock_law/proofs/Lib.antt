@@ -1,6 +1,4 @@
-pub mod Ids
 pub mod Keys
-pub mod Each
 pub mod Log
 pub mod Order
 pub mod Prelims

@@ -1,6 +1,6 @@
 -- The log beside a run of the store, and what its entries make of a key.
 use Rattle.eris_lock_law.proofs.Keys.{after_all_at, on_key, put_on, touches_from_alters, written_at}
-use Rattle.eris_locks.specs.Each.{Each}
+use Rattle.eris_base.specs.Each.{Each}
 use Rattle.eris_locks.specs.Locks.{IsConflict, alters, locks_of, touches}
 use Rattle.eris_locks.specs.ShardRun.{left_after}
 use Rattle.eris_locks.specs.declared.shard_packet.ShardPacket.{ShardPacket}

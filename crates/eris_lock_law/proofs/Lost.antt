@@ -2,18 +2,18 @@
 use Rattle.eris_base.specs.declared.ids.Phase.{Phase}
 use Rattle.eris_base.specs.declared.ids.Place.{Place}
 use Rattle.eris_base.specs.declared.ids.TxnId.{TxnId}
-use Rattle.eris_lock_law.proofs.Each.{Each-append}
+use Rattle.eris_base.proofs.Each.{Each-append}
 use Rattle.eris_lock_law.proofs.Fit.{same_phases}
-use Rattle.eris_lock_law.proofs.Ids.{same_id-from, same_id-true}
+use Rattle.eris_base.proofs.TxnIdLaws.{same_id-from, same_id-true}
 use Rattle.eris_lock_law.proofs.Prelims.{each_aborted_late}
 use Rattle.eris_lock_law.proofs.Runs.{dones_of_prefix}
 use Rattle.eris_lock_law.proofs.SaidFrom.{is_granted, ran, said_holds}
-use Rattle.eris_locks.specs.Each.{Each}
+use Rattle.eris_base.specs.Each.{Each}
 use Rattle.eris_locks.specs.Law.{HoldsOrDecided, Said}
 use Rattle.eris_locks.specs.LockTable.{Stepped, aborted_late, all_also, also, answer_of, arrive, arrive_new, conclude, conclude_first, done, execute, only, release, run_dones, run_state, step, step_by}
 use Rattle.eris_locks.specs.Locks.{locks_of}
 use Rattle.eris_locks.specs.States.{StoreState, blocked, decide, empty, holds, is_decided, is_prelim, is_prelim_of, no_longer_holding, no_longer_waiting, note, phase_of, same_phase, waits}
-use Rattle.eris_locks.specs.TxnIds.{same_id}
+use Rattle.eris_base.specs.TxnIds.{same_id}
 use Rattle.eris_locks.specs.declared.done.Done.{Done}
 use Rattle.eris_locks.specs.declared.shard_packet.ShardPacket.{ShardPacket}
 use Rattle.eris_txn.specs.Plans.{written}

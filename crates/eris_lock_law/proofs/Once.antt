@@ -1,11 +1,11 @@
 -- The plain run answers no id twice, and none by Aborted.
 use Rattle.eris_base.specs.declared.ids.TxnId.{TxnId}
-use Rattle.eris_lock_law.proofs.Ids.{same_id-from, same_id-true}
+use Rattle.eris_base.proofs.TxnIdLaws.{same_id-from, same_id-true}
 use Rattle.eris_locks.specs.Law.{EachIdOnce, StandsIn, is_served}
 use Rattle.eris_locks.specs.LockTable.{answer_of}
 use Rattle.eris_locks.specs.ShardRun.{Served, left_after, plain_run, writes_at, writes_in}
 use Rattle.eris_locks.specs.States.{is_conclusory}
-use Rattle.eris_locks.specs.TxnIds.{is_among, same_id}
+use Rattle.eris_base.specs.TxnIds.{is_among, same_id}
 use Rattle.eris_locks.specs.declared.shard_packet.ShardPacket.{ShardPacket}
 use Rattle.eris_txn.specs.Keys.{Values}
 use Rattle.eris_txn.specs.declared.answer.Answer.{Answer}

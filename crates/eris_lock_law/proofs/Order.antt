@@ -1,5 +1,5 @@
 -- The order of the log as its entries go on.
-use Rattle.eris_lock_law.proofs.Each.{Each-append, Each-changed, Each-right}
+use Rattle.eris_base.proofs.Each.{Each-append, Each-changed, Each-right}
 use Rattle.eris_lock_law.proofs.Log.{Entry, InOrder, LaterApart, OpenApart, Status, has_acted, is_open, locks_in, with_status}
 use Rattle.eris_txn.specs.declared.lock.Lock.{Lock}
 use Rattle.std.proofs.Common.{Bool, List, [], false, true, ◌++◌, ◌∷◌, ◌≡◌}

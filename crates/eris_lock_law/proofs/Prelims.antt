@@ -2,7 +2,7 @@
 use Rattle.eris_base.specs.declared.ids.Phase.{Phase}
 use Rattle.eris_base.specs.declared.ids.Place.{Place}
 use Rattle.eris_base.specs.declared.ids.TxnId.{TxnId}
-use Rattle.eris_locks.specs.Each.{Each}
+use Rattle.eris_base.specs.Each.{Each}
 use Rattle.eris_locks.specs.LockTable.{aborted_late, done}
 use Rattle.eris_locks.specs.States.{is_prelim, is_prelim_of, phase_of}
 use Rattle.eris_locks.specs.declared.done.Done.{Done}

@@ -5,7 +5,7 @@ use Rattle.eris_base.specs.declared.ids.TxnId.{TxnId}
 use Rattle.eris_lock_law.proofs.Act.{act, acted, acts}
 use Rattle.eris_lock_law.proofs.Fit.{Fit, Good, Plain, Point, entry_of, is_waiting, waiting_in, waiting_in-append}
 use Rattle.eris_lock_law.proofs.Log.{Complete, Entry, Holds, Status, Void, Waits}
-use Rattle.eris_locks.specs.Each.{Each}
+use Rattle.eris_base.specs.Each.{Each}
 use Rattle.eris_locks.specs.LockTable.{Stepped, also, answer_of, done, execute, release}
 use Rattle.eris_locks.specs.Locks.{locks_of}
 use Rattle.eris_locks.specs.States.{StoreState, blocked, phase_of}

@@ -4,12 +4,12 @@ use Rattle.eris_base.specs.declared.ids.Place.{Place}
 use Rattle.eris_base.specs.declared.ids.TxnId.{TxnId}
 use Rattle.eris_lock_law.proofs.Arrive.{Next, arrive_right}
 use Rattle.eris_lock_law.proofs.Conclude.{conclude_right}
-use Rattle.eris_lock_law.proofs.Each.{Each-append}
+use Rattle.eris_base.proofs.Each.{Each-append}
 use Rattle.eris_lock_law.proofs.Fit.{Fit, Plain, waiting_in}
 use Rattle.eris_lock_law.proofs.Keys.{on_key_kept, put_on_kept}
 use Rattle.eris_lock_law.proofs.Log.{Entry}
 use Rattle.eris_lock_law.proofs.Release.{GoodDone}
-use Rattle.eris_locks.specs.Each.{Each}
+use Rattle.eris_base.specs.Each.{Each}
 use Rattle.eris_locks.specs.LockTable.{run_dones, run_state, step, step_by}
 use Rattle.eris_locks.specs.Locks.{alters}
 use Rattle.eris_locks.specs.ShardRun.{outcome_in, plain_run, plain_values, writes_in}

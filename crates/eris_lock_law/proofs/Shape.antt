@@ -2,14 +2,14 @@
 use Rattle.eris_base.specs.declared.ids.ClientId.{ClientId}
 use Rattle.eris_base.specs.declared.ids.Place.{Place}
 use Rattle.eris_base.specs.declared.ids.TxnId.{TxnId}
-use Rattle.eris_lock_law.proofs.Ids.{same_id-from, same_id-true}
+use Rattle.eris_base.proofs.TxnIdLaws.{same_id-from, same_id-true}
 use Rattle.eris_lock_law.proofs.Runs.{GoesWell, GoesWellHere, plain}
-use Rattle.eris_locks.specs.Each.{Each}
+use Rattle.eris_base.specs.Each.{Each}
 use Rattle.eris_locks.specs.LockTable.{step}
 use Rattle.eris_locks.specs.Locks.{alters}
 use Rattle.eris_locks.specs.ShardRun.{writes_by, writes_in}
 use Rattle.eris_locks.specs.States.{StoreState, empty, holds, is_conclusory, is_prelim}
-use Rattle.eris_locks.specs.TxnIds.{same_id}
+use Rattle.eris_base.specs.TxnIds.{same_id}
 use Rattle.eris_locks.specs.WellFormed.{Agree, AgreeWith, FindsHolding, WellFormed, is_commit}
 use Rattle.eris_locks.specs.declared.shard_packet.ShardPacket.{ShardPacket}
 use Rattle.eris_txn.specs.declared.body.Body.{Body}

@@ -3,7 +3,7 @@ ghost use Rattle.eris_base.specs.declared.ids.Phase.{Phase};
 ghost use Rattle.eris_base.specs.declared.ids.TxnId.{TxnId};
 ghost use Rattle.eris_txn.specs.declared.answer.Answer.{Answer};
 ghost use Rattle.eris_locks.specs.declared.shard_packet.ShardPacket.{ShardPacket};
-ghost use Rattle.eris_locks.specs.Each.{Each};
+ghost use Rattle.eris_base.specs.Each.{Each};
 ghost use Rattle.eris_locks.specs.Law.{plain_answers, plain_end, IsPlain, IsRightDone, EachIdOnce, Said, HasPacket, HoldsOrDecided};
 ghost use Rattle.eris_locks.specs.Locks.{IsConflict, conflict};
 ghost use Rattle.eris_locks.specs.LockTable.{run_dones, run_state};

@@ -20,7 +20,7 @@ use Rattle.eris_locks.specs.Locks.{conflict}
 use Rattle.eris_locks.specs.LockTable.{run_dones, run_state}
 use Rattle.eris_locks.specs.ShardRun.{Served}
 use Rattle.eris_locks.specs.States.{empty}
-use Rattle.eris_locks.specs.TxnIds.{same_id}
+use Rattle.eris_base.specs.TxnIds.{same_id}
 
 -- a key of shard 0 whose name is one letter
 abbrev pub letter : ℕ → Key

@@ -10,7 +10,7 @@ use Rattle.eris_locks.specs.declared.shard_packet.ShardPacket.{ShardPacket}
 use Rattle.eris_locks.specs.LockTable.{run_state}
 use Rattle.eris_locks.specs.ShardRun.{Served, plain_run, plain_values, outcome_in}
 use Rattle.eris_locks.specs.States.{StoreState, phase_of, holds, is_prelim_of, empty}
-use Rattle.eris_locks.specs.TxnIds.{same_id}
+use Rattle.eris_base.specs.TxnIds.{same_id}
 
 abbrev pub StandsIn : Served → List Served → Type 0
 StandsIn served [] = ⊥

@@ -1,5 +1,3 @@
-pub mod Each
-pub mod TxnIds
 pub mod Shards
 pub mod Locks
 pub mod States

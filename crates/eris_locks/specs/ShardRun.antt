@@ -10,7 +10,7 @@ use Rattle.eris_txn.specs.Plans.{written}
 use Rattle.eris_locks.specs.declared.shard_packet.ShardPacket.{ShardPacket}
 use Rattle.eris_locks.specs.LockTable.{answer_of, values_after}
 use Rattle.eris_locks.specs.States.{is_conclusory}
-use Rattle.eris_locks.specs.TxnIds.{same_id, is_among}
+use Rattle.eris_base.specs.TxnIds.{same_id, is_among}
 
 -- what the first conclusory packet of an id says
 abbrev pub outcome_by : Body → Bool → Option Answer → Option Answer

@@ -10,7 +10,7 @@ use Rattle.eris_txn.specs.Keys.{Values, no_values}
 use Rattle.eris_locks.specs.declared.held.Held.{Held}
 use Rattle.eris_locks.specs.declared.shard_packet.ShardPacket.{ShardPacket}
 use Rattle.eris_locks.specs.Locks.{locks_of, conflict}
-use Rattle.eris_locks.specs.TxnIds.{same_id}
+use Rattle.eris_base.specs.TxnIds.{same_id}
 
 -- The state of a shard's store: the values of its keys, the answers kept by id and phase, the outcomes
 -- decided by id, the preliminaries that hold their locks, and the packets that wait, in order of place.

@@ -2,7 +2,7 @@ use Rattle.std.specs.Prelude.{◌≡◌, Bool, true, false, None, List, [], ◌�
 use Rattle.eris_txn.specs.declared.body.Body.{Body}
 use Rattle.eris_txn.specs.declared.body.Body.TheVariants.{Independent, Prelim, Commit, Abort}
 use Rattle.eris_locks.specs.declared.shard_packet.ShardPacket.{ShardPacket}
-use Rattle.eris_locks.specs.Each.{Each}
+use Rattle.eris_base.specs.Each.{Each}
 use Rattle.eris_locks.specs.Locks.{alters}
 use Rattle.eris_locks.specs.LockTable.{step}
 use Rattle.eris_locks.specs.States.{StoreState, holds, empty}

@@ -1,12 +1,13 @@
 -- What a plan's facts are, and what follows from them.
-use Rattle.std.proofs.Common.{◌≡◌, ◌≤◌, ◌<◌, ℕ, Bool, true, false, cond, ◌&&◌, ◌||◌, ◌==◌, nat_lt, nat_le, map, unwrap_or, Option, Some, None, List, [], ◌∷◌, length, refl, ap, sym, ◌∙◌, arith, ◌⊎◌, inl, inr}
-use Rattle.std.proofs.lemmas.Bool.{or_parts, or_from, cases_Bool, and_parts, cond_both, ltb-false, eqb-false, le-ltb, ne_eqb}
-use Rattle.std.specs.List.{list_any, list_all}
+use Rattle.std.proofs.Common.{◌≡◌, ℕ, Bool, true, false, cond, ◌||◌, ◌==◌, nat_lt, nat_le, map, unwrap_or, Option, Some, None, List, [], ◌∷◌, length, refl, ap, ◌∙◌, arith, subst, MatchOption, sym}
+use Rattle.std.proofs.lemmas.Bool.{or_parts, or_from, and_parts, cond_both, ltb-false, eqb-false, le-ltb, ne_eqb}
+use Rattle.std.specs.List.{list_all}
 use Rattle.eris_txn.specs.declared.key.Key.{Key}
 use Rattle.eris_txn.specs.declared.plan.Guard.{Guard}
 use Rattle.eris_txn.specs.declared.plan.PlanFault.{PlanFault}
 use Rattle.eris_txn.specs.declared.plan.PlanFault.TheVariants.{TooMany, Empty, RepeatedKey, UnlockedKey}
 use Rattle.eris_txn.specs.declared.plan.Setting.{Setting}
+use Rattle.eris_txn.specs.declared.plan.Write.{Write}
 use Rattle.eris_txn.specs.Keys.{same_key, Values, with_value}
 use Rattle.eris_txn.specs.PlanFacts.{IsPlan}
 use Rattle.eris_txn.specs.PlanFaults.{is_among, repeats, sets, sets_twice, all_locked, plan_fault}
@@ -115,3 +116,13 @@ writes_of-map plan values facts =
     let guards = guards_hold-map plan.keys values plan.guards parts.0 in
     let writes = writes_from-map plan.keys values plan.settings parts.1 in
     cc
+
+-- where a plan's values are those of a store: it writes nothing exactly where a guard doesn't hold there, else what its settings leave there
+pub writes_of-settles : (plan : PlanValue) (have : Values) → IsPlan plan
+    → MatchOption (writes_of plan (value_in plan.keys (map have plan.keys))) (guards_hold plan.guards have ≡ false) (λ writes. written writes have ≡ settled plan.settings have)
+writes_of-settles plan have facts =
+    let P : Option (List Write) → Type 0 = λ found. MatchOption found (guards_hold plan.guards have ≡ false) (λ writes. written writes have ≡ settled plan.settings have) in
+    subst P (sym (writes_of-map plan have facts))
+    (cond_both (guards_hold plan.guards have) (Some (writes_from plan.settings have)) None P
+    (λ holds. sym (settled-written plan.settings have facts.sets_once))
+    (λ fails. fails))

@@ -1,15 +1,16 @@
 -- A plan sets no more keys than it locks.
-use Rattle.std.proofs.Common.{◌≡◌, ◌≤◌, ◌+◌, ℕ, suc, Bool, true, false, cond, ◌&&◌, ◌||◌, nat_lt, nat_le, List, [], ◌∷◌, map, length, refl, ap, sym, ◌∙◌, subst, arith}
-use Rattle.std.proofs.lemmas.Bool.{or_parts, or_from, or_cases, and_parts, and_from, cases_Bool, cond_both, both_ways, lt-ltb, le-leb}
+use Rattle.std.proofs.Common.{◌≡◌, ◌≤◌, ◌+◌, Bool, true, false, cond, ◌||◌, nat_lt, nat_le, List, [], ◌∷◌, length, refl, ap, ◌∙◌, arith, Option, Some, None, IfSome}
+use Rattle.std.proofs.lemmas.Bool.{or_parts, or_cases, and_parts, and_from, cond_both, lt-ltb, le-leb}
 use Rattle.std.proofs.lemmas.List.{length-map}
-use Rattle.std.specs.List.{list_any, list_all}
+use Rattle.std.specs.List.{list_all}
 use Rattle.eris_txn.specs.declared.key.Key.{Key}
 use Rattle.eris_txn.specs.declared.plan.Setting.{Setting}
+use Rattle.eris_txn.specs.declared.plan.Write.{Write}
 use Rattle.eris_txn.specs.Keys.{same_key, Values}
 use Rattle.eris_txn.specs.PlanFacts.{IsPlan}
 use Rattle.eris_txn.specs.PlanFaults.{is_among, sets, sets_twice}
 use Rattle.eris_txn.specs.PlanValues.{PlanValue}
-use Rattle.eris_txn.specs.Plans.{locks_of, writes_from}
+use Rattle.eris_txn.specs.Plans.{guards_hold, locks_of, writes_from, writes_of}
 use Rattle.eris_txn.specs.Sizes.{is_few}
 use Rattle.eris_txn.proofs.KeyLaws.{same_key-true, same_key-symm}
 
@@ -59,15 +60,18 @@ length-settings (setting ∷ settings) keys once each =
     )
 
 -- a plan makes at most 32 writes
-pub length-writes : (plan : PlanValue) (values : Values) → IsPlan plan → length (writes_from plan.settings values) ≤ 32
-length-writes plan values facts =
+pub writes_of-few : (plan : PlanValue) (values : Values) → IsPlan plan → IfSome (writes_of plan values) (λ writes. length writes ≤ 32)
+writes_of-few plan values facts =
     let parts = and_parts (list_all (λ guard. is_among plan.keys guard.key) plan.guards) (list_all (λ setting. is_among plan.keys setting.key) plan.settings) facts.names_locked in
     let few = length-settings plan.settings plan.keys facts.sets_once parts.1 in
-    simp length-map (omega (arith, few, facts.few_keys))
+    let P : Option (List Write) → Type 0 = λ found. IfSome found (λ writes. length writes ≤ 32) in
+    cond_both (guards_hold plan.guards values) (Some (writes_from plan.settings values)) None P
+    (λ holds. simp length-map (omega (arith, few, facts.few_keys)))
+    (λ fails. tt)
 
 -- and takes 1 to 32 locks
 pub locks_of-few : (plan : PlanValue) → IsPlan plan → is_few (locks_of plan) ≡ true
 locks_of-few plan facts =
     simp length-map (and_from (nat_lt 0 (length plan.keys)) (nat_le (length plan.keys) 32) (lt-ltb 0 (length plan.keys) (omega (arith, facts.some_key))) (le-leb (length plan.keys) 32 facts.few_keys))
 
-pub ruleset plan_sizes = (length-writes, locks_of-few)
+pub ruleset plan_sizes = (locks_of-few)

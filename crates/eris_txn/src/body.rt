@@ -81,6 +81,7 @@ impl Same for Body {
     }
 }
 
+/// What speaks of one key.
 trait Keyed {
     ghost key_in: { Self → Key };
 
@@ -117,7 +118,8 @@ impl Keyed for Lock {
 pub fn participants(alloc: Global, body: &Body) -> Result<Row<ShardId>, NoMemory>
     ensures exact { IfOk result (λ shards. shards ≡ participants_of body.now) }
     ensures ascend { IfOk result (λ shards. IsTrue (ascends_from None shards)) }
-    ensures named { IfOk result (λ shards. (shard : ShardId) → has_shard shards shard ≡ any_on (keys_of body.now) shard) }
+    ensures named { IfOk result (λ shards. (shard : ShardId)
+        → has_shard shards shard ≡ any_on (keys_of body.now) shard) }
     ensures few { IfOk result (λ shards. IsTrue (body_has_size body.now) → IsTrue (is_few shards)) }
 {
     let shards = shards_of_body(alloc, body)?;

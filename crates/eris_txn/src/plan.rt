@@ -1,6 +1,7 @@
-ghost use Rattle.std.specs.Prelude.{◌≡◌, ◌≤◌, Some, None, IfOk, IfErr, IfSome, IsTrue, length, nat_le, unwrap_or};
+ghost use Rattle.std.specs.Prelude.{◌≡◌, ◌≤◌, Some, None, IfOk, IfErr, IfSome, IsTrue, MatchOption, false, length, map, nat_le, unwrap_or};
 ghost use Rattle.std.specs.List.{list_all};
-ghost use Rattle.eris_txn.specs.Plans.{value_in, guards_hold, set_by, writes_from, writes_of, locks_in, locks_of, mode_of};
+ghost use Rattle.eris_txn.specs.Plans.{value_in, guards_hold, set_by, settled, writes_from, written, writes_of, locks_in, locks_of, mode_of};
+ghost use Rattle.eris_txn.specs.Keys.{Values};
 ghost use Rattle.eris_txn.specs.Sizes.{is_few};
 ghost use Rattle.eris_txn.specs.PlanFaults.{is_among, repeats, sets, sets_twice, all_locked, plan_fault};
 
@@ -21,8 +22,11 @@ pub struct Guard {
 /// How a setting makes its value, modulo 2^64, where an absent value counts as 0.
 #[derive(Clone, Copy, Debug, PartialEq, Eq)]
 pub enum How {
+    /// The number itself.
     Put(u64),
+    /// The value before plus the number.
     Plus(u64),
+    /// The value before minus the number.
     Minus(u64),
 }
 
@@ -152,17 +156,27 @@ impl Plan {
     /// What the plan writes where its keys have these values, which stand in the order of the keys; None
     /// means absent, and so does a value that is missing. It is None exactly where a guard's key has a
     /// value below the guard's `least`, where absent counts as 0. Else there is one write for each
-    /// setting, in order.
+    /// setting, in order, and the writes leave what the settings leave, made one after the other.
     pub fn writes(&self, values: &[Option<u64>]) -> Result<Option<Row<Write>>, NoMemory>
-        ensures exact { IfOk result (λ writes. writes ≡ writes_of self.now (value_in self.now.keys values.now)) }
+        ensures exact { IfOk result (λ found. found ≡ writes_of self.now (value_in self.now.keys values.now)) }
         ensures few { IfOk result (λ found. IfSome found (λ writes. length writes ≤ 32)) }
+        ensures settles { IfOk result (λ found. (have : Values) → values.now ≡ map have self.now.keys
+            → MatchOption found (guards_hold self.now.guards have ≡ false)
+            (λ writes. written writes have ≡ settled self.now.settings have)) }
+    {
+        let found = self.found_writes(values)?;
+        Ok(found)
+    }
+
+    fn found_writes(&self, values: &[Option<u64>]) -> Result<Option<Row<Write>>, NoMemory>
+        ensures exact { IfOk result (λ found. found ≡ writes_of self.now (value_in self.now.keys values.now)) }
+        ensures fits { IsPlan self.now }
     {
         let keys = self.keys.as_slice();
-        let settings = self.settings.as_slice();
         if !guards_hold(self.guards.as_slice(), keys, values) {
             return Ok(None);
         }
-        let writes = writes_from(self.alloc, settings, keys, values)?;
+        let writes = writes_from(self.alloc, self.settings.as_slice(), keys, values)?;
         Ok(Some(writes))
     }
 }
@@ -343,7 +357,7 @@ fn guard_holds(guard: &Guard, value: Option<u64>) -> bool
     value.unwrap_or(0) >= guard.least
 }
 
-fn set_by(how: &How, before: Option<u64>) -> u64
+pub(crate) fn set_by(how: &How, before: Option<u64>) -> u64
     ensures { result ≡ set_by how.now before }
 {
     match how {

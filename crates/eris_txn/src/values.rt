@@ -1,11 +1,14 @@
-ghost use Rattle.std.specs.Prelude.{◌≡◌, [], OnOk, OnErr, IfOk, Some, None};
-ghost use Rattle.eris_txn.specs.Keys.{with_value, no_values};
+ghost use Rattle.std.specs.Prelude.{◌≡◌, [], map, OnOk, OnErr, IfOk, Some, None};
+ghost use Rattle.std.specs.List.Sorted.{IsStrictlySortedBy};
+ghost use Rattle.eris_txn.specs.Keys.{key_cmp, with_value, no_values};
 ghost use Rattle.eris_txn.specs.Operations.{after, after_all, answered, answers, key_of};
-ghost use Rattle.eris_txn.specs.KeyValues.{values_of};
+ghost use Rattle.eris_txn.specs.KeyValues.{total_of, values_of};
+ghost use Rattle.eris_txn.specs.Plans.{set_by, settled};
 
 use crate::key::Key;
 use crate::op::{Op, OpAnswer};
 use crate::operation::apply_op;
+use crate::plan::{Setting, set_by};
 use eris_base::{NoMemory, Row};
 use std::alloc::Global;
 use std::collections::BTreeMap;
@@ -88,5 +91,36 @@ impl KeyValues {
             made.push(self.apply(op)?)?;
         }
         Ok(made)
+    }
+
+    /// Makes a setting. After [`NoMemory`] all is as before.
+    fn set(&mut self, setting: &Setting) -> Result<(), NoMemory>
+        ensures ok { OnOk result (values_of self.new ≡ with_value setting.now.key (Some (set_by setting.now.how (values_of self.old setting.now.key))) (values_of self.old)) }
+        ensures err { OnErr result (self.new ≡ self.old) }
+    {
+        let before = self.value_of(&setting.key);
+        self.put(setting.key, set_by(&setting.how, before))
+    }
+
+    /// Makes settings, one after the other. After [`NoMemory`] some may have been made.
+    pub fn settle(&mut self, settings: &[Setting]) -> Result<(), NoMemory>
+        ensures { OnOk result (values_of self.new ≡ settled settings.now (values_of self.old)) }
+    {
+        for setting in settings {
+            self.set(setting)?;
+        }
+        Ok(())
+    }
+
+    /// The sum of all values, modulo 2^64. Each key stands once. It takes no memory.
+    pub fn total(&self) -> u64
+        ensures sum { result ≡ total_of self.now }
+        ensures ordered { IsStrictlySortedBy key_cmp (map (λ entry. entry.0) self.now) }
+    {
+        let mut sum: u64 = 0;
+        for value in self.entries.values() {
+            sum = sum.wrapping_add(*value);
+        }
+        sum
     }
 }

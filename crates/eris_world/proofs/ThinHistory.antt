@@ -7,7 +7,7 @@ use Rattle.eris_txn.specs.declared.txn.Txn.TheVariants.{Whole}
 use Rattle.eris_txn.specs.declared.history.HistoryEvent.{HistoryEvent}
 use Rattle.eris_txn.specs.declared.history.HistoryEvent.TheVariants as happened
 use Rattle.eris_txn.specs.Keys.{Values, no_values}
-use Rattle.eris_audit.specs.Each.{Each, EachAfter}
+use Rattle.eris_base.specs.Each.{Each, EachAfter}
 use Rattle.eris_audit.specs.Histories.{first_submit, txn_of}
 use Rattle.eris_audit.specs.IsSerial.{FollowsAnswered, AnsweredStandsBefore}
 use Rattle.eris_world.proofs.ThinJobs.{Job, id_of, submits, after_jobs, answer_at, told, NumberedFrom, after_jobs-append}

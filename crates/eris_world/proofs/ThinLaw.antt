@@ -9,7 +9,7 @@ use Rattle.eris_txn.specs.declared.packet.Packet.{Packet}
 use Rattle.eris_txn.specs.declared.history.HistoryEvent.{HistoryEvent}
 use Rattle.eris_txn.specs.declared.history.HistoryEvent.TheVariants as happened
 use Rattle.eris_txn.specs.Keys.{no_values}
-use Rattle.eris_audit.specs.Each.{Each, EachAfter}
+use Rattle.eris_base.specs.Each.{Each, EachAfter}
 use Rattle.eris_audit.specs.Histories.{txn_of, first_submit}
 use Rattle.eris_audit.specs.IsSerial.{IsSerial, IsOrderLine, HasItsLine, GuardsHold, EqualsRun, IsToldOutcome}
 use Rattle.eris_audit.specs.declared.outcome.Outcome.TheVariants.{Done}

@@ -13,7 +13,7 @@ use Rattle.eris_audit.specs.declared.outcome.Outcome.TheVariants.{Done}
 use Rattle.eris_audit.specs.Lines.{Line, has_line, stands_before}
 use Rattle.eris_audit.specs.SerialRun.{result_in}
 use Rattle.eris_audit.specs.Histories.{first_submit}
-use Rattle.eris_audit.specs.TxnIds.{same_id}
+use Rattle.eris_base.specs.TxnIds.{same_id}
 use Rattle.eris_world.proofs.ThinJobs.{Job, id_of, submits, after_jobs, answer_at, NumberedFrom, number_behind}
 use Rattle.eris_world.proofs.ThinCourse.{is_submit}
 

@@ -1,5 +1,5 @@
 -- A property of each item of a list.
-use Rattle.eris_locks.specs.Each.{Each}
+use Rattle.eris_base.specs.Each.{Each}
 use Rattle.std.proofs.Common.{Bool, List, [], cond, false, true, ◌++◌, ◌∷◌}
 use Rattle.std.specs.List.{filter}
 

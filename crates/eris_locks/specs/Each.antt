@@ -1,6 +1,0 @@
-use Rattle.std.specs.Prelude.{List, [], ◌∷◌, ⊤}
-
--- each item of a list has a property
-abbrev pub Each : {X : Type 0} → (X → Type 0) → List X → Type 0
-Each P [] = ⊤
-Each P (x ∷ xs) = P x × Each P xs

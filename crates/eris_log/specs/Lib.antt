@@ -1,0 +1,9 @@
+pub mod Entries
+pub mod Growth
+pub mod Held
+pub mod Laws
+pub mod PartFacts
+pub mod PartValues
+pub mod Parts
+pub mod Places
+pub mod Sorted
