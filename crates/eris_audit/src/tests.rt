@@ -1,8 +1,10 @@
+use self::Asked::{Add, Get, GetBoth, Move, Put, PutOther};
+use self::Event::{Both, Ended, Read, Submit, Sum, Told, WasSet};
+use crate::outcome::Outcome::{Aborted, Committed, Done, Pending};
 use crate::*;
 use eris_base::{ClientId, Epoch, NoMemory, Row, ShardId, Stamp, TxnId};
 use eris_txn::{Answer, Guard, HistoryEvent, How, Key, Name, Op, OpAnswer, Plan, Setting, Txn};
 use std::alloc::Global;
-use std::process::Abort;
 use std::test::Fail;
 
 const A: TxnId = TxnId {
@@ -20,38 +22,307 @@ const C: TxnId = TxnId {
     number: 1,
 };
 
-const E: TxnId = TxnId {
+const D: TxnId = TxnId {
     client: ClientId(2),
     number: 1,
 };
 
-/// An event of a small history over the keys a and b.
+/// A transaction over the keys a and b.
+#[derive(Clone, Copy)]
+enum Asked {
+    /// 5 is added to a.
+    Add,
+    /// a is set to 30.
+    Put,
+    /// b is set to 1.
+    PutOther,
+    /// a is read.
+    Get,
+    /// a and b are read.
+    GetBoth,
+    /// 30 are moved from a to b, where a has at least so much.
+    Move(u64),
+}
+
+/// An event of a small history.
 #[derive(Clone, Copy)]
 enum Event {
-    /// Submits: 5 is added to a, a is set to 30, b is set to 1, a is read, both are read.
-    Add(TxnId),
-    Put(TxnId),
-    PutOther(TxnId),
-    Get(TxnId),
-    GetBoth(TxnId),
-    /// A move of 30 from a to b is submitted, of which a must have at least so much.
-    Move(TxnId, u64),
+    Submit(TxnId, Asked),
     /// The move read these values of a and b.
     Read(TxnId, Option<u64>, Option<u64>),
-    /// Answers: a value, that a value was set, and two values.
+    /// Answers: a value, that a key was set, and two values.
     Sum(TxnId, u64),
-    Done(TxnId),
-    Values(TxnId, Option<u64>, Option<u64>),
+    WasSet(TxnId),
+    Both(TxnId, Option<u64>, Option<u64>),
     /// The move is answered that it committed, or that it was aborted.
     Ended(TxnId, bool),
     /// The same is told to another client.
     Told(TxnId, bool),
 }
 
-fn key(rt: &impl Abort, shard: u8, name: &[u8]) -> Key {
-    Key {
-        shard: ShardId(shard),
-        name: Name::new(name).expect(rt, "a name"),
+/// A history, an order, and the rule and the line of the verdict, which are 0 where it is `Yes`.
+type Case = (&'static [Event], &'static [(TxnId, Outcome)], (u8, u32));
+
+static CASES: [Case; 37] = [
+    (&[Submit(A, Add), Sum(A, 5)], &[(A, Done)], (0, 0)),
+    (&[Submit(A, Add), Sum(A, 6)], &[(A, Done)], (3, 2)),
+    (&[Submit(A, Add), Sum(A, 5)], &[], (2, 2)),
+    // RULE 1: an id twice, an id that was never submitted, and each kind's wrong outcome
+    (&[Submit(A, Add)], &[(A, Done), (A, Done)], (1, 2)),
+    (&[Submit(A, Add)], &[(A, Done), (B, Done)], (1, 2)),
+    (&[Submit(A, Add)], &[(A, Pending)], (1, 1)),
+    (&[Submit(C, Move(0))], &[(C, Done)], (1, 1)),
+    // the first of two lines, and rule 1 before rule 2
+    (
+        &[Submit(A, Add), Submit(B, Add)],
+        &[(B, Done), (A, Pending), (B, Done)],
+        (1, 2),
+    ),
+    (&[Submit(A, Add), Sum(A, 6)], &[(B, Done)], (1, 1)),
+    // RULE 2: what read, and what was told to have committed, has a line
+    (&[Submit(C, Move(0)), Read(C, None, None)], &[], (2, 2)),
+    (&[Submit(C, Move(0)), Told(C, true)], &[], (2, 2)),
+    // the first of two events, and rule 2 before rule 3
+    (
+        &[Submit(A, Add), Submit(B, Add), Sum(B, 6), Sum(A, 6)],
+        &[],
+        (2, 3),
+    ),
+    (
+        &[Submit(A, Add), Submit(B, Add), Sum(A, 6), Sum(B, 5)],
+        &[(A, Done)],
+        (2, 4),
+    ),
+    // RULE 3: a guard is asked at the point of its line, before its own settings
+    (&[Submit(C, Move(1))], &[(C, Committed)], (3, 1)),
+    (
+        &[
+            Submit(A, Put),
+            Submit(C, Move(30)),
+            Read(C, Some(30), None),
+            Ended(C, true),
+        ],
+        &[(A, Done), (C, Committed)],
+        (0, 0),
+    ),
+    // the first of two lines
+    (
+        &[Submit(A, Put), Submit(C, Move(31)), Submit(D, Move(31))],
+        &[(A, Done), (C, Committed), (D, Committed)],
+        (3, 2),
+    ),
+    // a guard before an event
+    (
+        &[
+            Submit(A, Add),
+            Sum(A, 6),
+            Submit(B, Get),
+            Submit(C, Move(6)),
+        ],
+        &[(A, Done), (B, Done), (C, Committed)],
+        (3, 3),
+    ),
+    // no guard is asked of what doesn't commit, which reads all the same
+    (&[Submit(C, Move(1))], &[(C, Aborted)], (0, 0)),
+    (
+        &[
+            Submit(A, Put),
+            Submit(C, Move(31)),
+            Read(C, Some(30), None),
+            Ended(C, false),
+        ],
+        &[(A, Done), (C, Aborted)],
+        (0, 0),
+    ),
+    // what is read are the values before its settings
+    (
+        &[
+            Submit(A, Put),
+            Submit(C, Move(30)),
+            Read(C, Some(0), Some(30)),
+        ],
+        &[(A, Done), (C, Committed)],
+        (3, 3),
+    ),
+    // a commit writes, and what is pending doesn't
+    (
+        &[
+            Submit(A, Put),
+            Submit(C, Move(30)),
+            Submit(B, GetBoth),
+            Both(B, Some(0), Some(30)),
+        ],
+        &[(A, Done), (C, Committed), (B, Done)],
+        (0, 0),
+    ),
+    (
+        &[
+            Submit(A, Put),
+            Submit(C, Move(30)),
+            Submit(B, GetBoth),
+            Both(B, Some(30), None),
+        ],
+        &[(A, Done), (C, Pending), (B, Done)],
+        (0, 0),
+    ),
+    (
+        &[
+            Submit(A, Put),
+            Submit(C, Move(30)),
+            Submit(B, GetBoth),
+            Both(B, Some(0), Some(30)),
+        ],
+        &[(A, Done), (C, Pending), (B, Done)],
+        (3, 4),
+    ),
+    // an answer of a general transaction is its outcome
+    (
+        &[Submit(C, Move(0)), Ended(C, true)],
+        &[(C, Aborted)],
+        (3, 2),
+    ),
+    (&[Submit(C, Move(0)), Sum(C, 5)], &[(C, Committed)], (3, 2)),
+    // the first of two events
+    (
+        &[Submit(A, Add), Submit(B, Add), Sum(B, 6), Sum(A, 6)],
+        &[(A, Done), (B, Done)],
+        (3, 3),
+    ),
+    // RULE 4: what was answered before a submit stands before it
+    (
+        &[Submit(A, Put), WasSet(A), Submit(B, PutOther), WasSet(B)],
+        &[(B, Done), (A, Done)],
+        (4, 3),
+    ),
+    (
+        &[Submit(A, Put), Submit(B, PutOther), WasSet(A), WasSet(B)],
+        &[(B, Done), (A, Done)],
+        (0, 0),
+    ),
+    // the first of two submits
+    (
+        &[
+            Submit(A, Put),
+            WasSet(A),
+            Submit(B, PutOther),
+            Submit(C, PutOther),
+        ],
+        &[(C, Done), (B, Done), (A, Done)],
+        (4, 3),
+    ),
+    // a line of a lesser number is answered last
+    (
+        &[
+            Submit(A, Put),
+            Submit(B, PutOther),
+            WasSet(B),
+            WasSet(A),
+            Submit(C, PutOther),
+        ],
+        &[(A, Done), (C, Done), (B, Done)],
+        (4, 5),
+    ),
+    // rule 3 before rule 4
+    (
+        &[Submit(A, Add), Sum(A, 5), Submit(B, Get), Sum(B, 5)],
+        &[(B, Done), (A, Done)],
+        (3, 4),
+    ),
+    // RULE 5: what was told is the outcome, or what has no line was aborted
+    (&[Submit(C, Move(0)), Told(C, false)], &[], (0, 0)),
+    (
+        &[Submit(C, Move(0)), Told(C, false)],
+        &[(C, Committed)],
+        (5, 2),
+    ),
+    (
+        &[Submit(C, Move(0)), Told(C, true)],
+        &[(C, Aborted)],
+        (5, 2),
+    ),
+    (
+        &[Submit(C, Move(0)), Told(C, false)],
+        &[(C, Pending)],
+        (5, 2),
+    ),
+    // the first of two events, and rule 4 before rule 5
+    (
+        &[
+            Submit(C, Move(0)),
+            Told(C, true),
+            Told(C, false),
+            Told(C, false),
+        ],
+        &[(C, Committed)],
+        (5, 3),
+    ),
+    (
+        &[
+            Submit(C, Move(0)),
+            Told(C, true),
+            Submit(A, Put),
+            WasSet(A),
+            Submit(B, PutOther),
+        ],
+        &[(B, Done), (A, Done), (C, Aborted)],
+        (4, 5),
+    ),
+];
+
+fn key_a() -> Result<Key, Fail> {
+    Ok(Key {
+        shard: ShardId(0),
+        name: Name::new(b"a").ok_or("a name")?,
+    })
+}
+
+fn key_b() -> Result<Key, Fail> {
+    Ok(Key {
+        shard: ShardId(1),
+        name: Name::new(b"b").ok_or("a name")?,
+    })
+}
+
+fn whole(alloc: Global, op: Op) -> Result<Txn, Fail> {
+    let mut ops = Row::new(alloc);
+    ops.push(op)?;
+    Ok(Txn::Whole(ops))
+}
+
+fn whole_of_two(alloc: Global, op: Op, other: Op) -> Result<Txn, Fail> {
+    let mut ops = Row::new(alloc);
+    ops.push(op)?;
+    ops.push(other)?;
+    Ok(Txn::Whole(ops))
+}
+
+/// Moves 30 from one key to another, where the first has at least so much.
+fn transfer(alloc: Global, from: &Key, to: &Key, least: u64) -> Result<Txn, Fail> {
+    let mut keys = Row::new(alloc);
+    keys.push(*from)?;
+    keys.push(*to)?;
+    let mut guards = Row::new(alloc);
+    guards.push(Guard { key: *from, least })?;
+    let mut settings = Row::new(alloc);
+    settings.push(Setting {
+        key: *from,
+        how: How::Minus(30),
+    })?;
+    settings.push(Setting {
+        key: *to,
+        how: How::Plus(30),
+    })?;
+    Ok(Txn::General(Plan::new(alloc, keys, guards, settings)?))
+}
+
+fn make_txn(alloc: Global, asked: Asked) -> Result<Txn, Fail> {
+    match asked {
+        Add => whole(alloc, Op::Add(key_a()?, 5)),
+        Put => whole(alloc, Op::Put(key_a()?, 30)),
+        PutOther => whole(alloc, Op::Put(key_b()?, 1)),
+        Get => whole(alloc, Op::Get(key_a()?)),
+        GetBoth => whole_of_two(alloc, Op::Get(key_a()?), Op::Get(key_b()?)),
+        Move(least) => transfer(alloc, &key_a()?, &key_b()?, least),
     }
 }
 
@@ -59,6 +330,13 @@ fn row<T: Copy>(alloc: Global, items: &[T]) -> Result<Row<T>, NoMemory> {
     let mut made = Row::new(alloc);
     made.append(items)?;
     Ok(made)
+}
+
+fn value_or_absent(value: Option<u64>) -> OpAnswer {
+    match value {
+        Some(value) => OpAnswer::Value(value),
+        None => OpAnswer::Absent,
+    }
 }
 
 fn outcome_answer(committed: bool) -> Answer {
@@ -69,596 +347,127 @@ fn outcome_answer(committed: bool) -> Answer {
     }
 }
 
-fn move_30(rt: &impl Abort, alloc: Global, least: u64) -> Result<Plan, Fail> {
-    let from = key(rt, 0, b"a");
-    let to = key(rt, 1, b"b");
-    let plan = Plan::new(
-        alloc,
-        row(alloc, &[from, to])?,
-        row(alloc, &[Guard { key: from, least }])?,
-        row(
-            alloc,
-            &[
-                Setting {
-                    key: from,
-                    how: How::Minus(30),
-                },
-                Setting {
-                    key: to,
-                    how: How::Plus(30),
-                },
-            ],
-        )?,
-    )?;
-    Ok(plan)
+fn answered(alloc: Global, answers: &[OpAnswer]) -> Result<Answer, NoMemory> {
+    Ok(Answer::Ops(row(alloc, answers)?))
 }
 
-fn submit(alloc: Global, id: TxnId, ops: &[Op]) -> Result<HistoryEvent, NoMemory> {
-    Ok(HistoryEvent::Submit(id, Txn::Whole(row(alloc, ops)?)))
-}
-
-fn answer(alloc: Global, id: TxnId, answers: &[OpAnswer]) -> Result<HistoryEvent, NoMemory> {
-    Ok(HistoryEvent::Answer(id, Answer::Ops(row(alloc, answers)?)))
-}
-
-fn value_or_absent(value: Option<u64>) -> OpAnswer {
-    match value {
-        Some(value) => OpAnswer::Value(value),
-        None => OpAnswer::Absent,
-    }
-}
-
-fn make_event(rt: &impl Abort, alloc: Global, event: Event) -> Result<HistoryEvent, Fail> {
-    let a = key(rt, 0, b"a");
-    let b = key(rt, 1, b"b");
+fn make_event(alloc: Global, event: Event) -> Result<HistoryEvent, Fail> {
     match event {
-        Event::Add(id) => Ok(submit(alloc, id, &[Op::Add(a, 5)])?),
-        Event::Put(id) => Ok(submit(alloc, id, &[Op::Put(a, 30)])?),
-        Event::PutOther(id) => Ok(submit(alloc, id, &[Op::Put(b, 1)])?),
-        Event::Get(id) => Ok(submit(alloc, id, &[Op::Get(a)])?),
-        Event::GetBoth(id) => Ok(submit(alloc, id, &[Op::Get(a), Op::Get(b)])?),
-        Event::Move(id, least) => Ok(HistoryEvent::Submit(
+        Submit(id, asked) => Ok(HistoryEvent::Submit(id, make_txn(alloc, asked)?)),
+        Read(id, a, b) => Ok(HistoryEvent::Read(id, row(alloc, &[a, b])?)),
+        Sum(id, sum) => Ok(HistoryEvent::Answer(id, answered(alloc, &[OpAnswer::Value(sum)])?)),
+        WasSet(id) => Ok(HistoryEvent::Answer(id, answered(alloc, &[OpAnswer::Done])?)),
+        Both(id, a, b) => Ok(HistoryEvent::Answer(
             id,
-            Txn::General(move_30(rt, alloc, least)?),
+            answered(alloc, &[value_or_absent(a), value_or_absent(b)])?,
         )),
-        Event::Read(id, some, other) => Ok(HistoryEvent::Read(id, row(alloc, &[some, other])?)),
-        Event::Sum(id, sum) => Ok(answer(alloc, id, &[OpAnswer::Value(sum)])?),
-        Event::Done(id) => Ok(answer(alloc, id, &[OpAnswer::Done])?),
-        Event::Values(id, some, other) => Ok(answer(
-            alloc,
-            id,
-            &[value_or_absent(some), value_or_absent(other)],
-        )?),
-        Event::Ended(id, committed) => Ok(HistoryEvent::Answer(id, outcome_answer(committed))),
-        Event::Told(id, committed) => Ok(HistoryEvent::Told(
-            ClientId(9),
-            id,
-            outcome_answer(committed),
-        )),
+        Ended(id, committed) => Ok(HistoryEvent::Answer(id, outcome_answer(committed))),
+        Told(id, committed) => Ok(HistoryEvent::Told(ClientId(9), id, outcome_answer(committed))),
     }
+}
+
+fn history(alloc: Global, events: &[Event]) -> Result<Row<HistoryEvent>, Fail> {
+    let mut made = Row::new(alloc);
+    for event in events {
+        made.push(make_event(alloc, *event)?)?;
+    }
+    Ok(made)
 }
 
 fn line(alloc: Global, id: TxnId, outcome: Outcome) -> Result<OrderLine, NoMemory> {
+    let mut places = Row::new(alloc);
+    places.push((ShardId(0), 1))?;
     Ok(OrderLine {
         id,
         outcome,
         stamp: Stamp {
             epoch: Epoch(0),
-            places: row(alloc, &[(ShardId(0), 1)])?,
+            places,
         },
     })
 }
 
-fn make_history(
-    rt: &impl Abort,
-    alloc: Global,
-    events: &[Event],
-) -> Result<Row<HistoryEvent>, Fail> {
-    let mut history = Row::new(alloc);
-    for event in events {
-        history.push(make_event(rt, alloc, *event)?)?;
-    }
-    Ok(history)
-}
-
-fn make_order(alloc: Global, lines: &[(TxnId, Outcome)]) -> Result<Row<OrderLine>, NoMemory> {
-    let mut order = Row::new(alloc);
+fn order(alloc: Global, lines: &[(TxnId, Outcome)]) -> Result<Row<OrderLine>, NoMemory> {
+    let mut made = Row::new(alloc);
     for (id, outcome) in lines {
-        order.push(line(alloc, *id, *outcome)?)?;
+        made.push(line(alloc, *id, *outcome)?)?;
     }
-    Ok(order)
+    Ok(made)
 }
 
-/// The verdict has this rule and line, or is `Yes` where both are 0.
-fn expect(
-    rt: &impl Abort,
+/// The verdict, where both lists are short.
+fn audited(
+    alloc: Global,
+    history: &[HistoryEvent],
+    order: &[OrderLine],
+) -> Result<Option<Verdict>, NoMemory> {
+    if history.len() < 100 && order.len() < 100 {
+        Ok(Some(audit(alloc, history, order)?))
+    } else {
+        Ok(None)
+    }
+}
+
+fn judged(
+    alloc: Global,
     events: &[Event],
     lines: &[(TxnId, Outcome)],
-    rule: u8,
-    line: u32,
-    alloc: Global,
-) -> Result<(), Fail> {
-    let history = make_history(rt, alloc, events)?;
-    let order = make_order(alloc, lines)?;
-    let history = history.as_slice();
-    let order = order.as_slice();
-    assert!(rt; history.len() < 100);
-    assert!(rt; order.len() < 100);
-    let wanted = if rule == 0 {
-        Verdict::Yes
+) -> Result<Option<Verdict>, Fail> {
+    let history = history(alloc, events)?;
+    let order = order(alloc, lines)?;
+    Ok(audited(alloc, history.as_slice(), order.as_slice())?)
+}
+
+fn wanted(broken: (u8, u32)) -> Verdict {
+    match broken {
+        (0, _) => Verdict::Yes,
+        (rule, line) => Verdict::No { rule, line },
+    }
+}
+
+#[test]
+fn small_histories_are_judged(rt: HostRuntime) -> Result<(), Fail> {
+    for (at, case) in CASES.iter().enumerate() {
+        let verdict = judged(rt.alloc(), case.0, case.1)?;
+        assert_eq!(rt; verdict, Some(wanted(case.2)), "case {at}");
+    }
+    Ok(())
+}
+
+fn run(store: &mut SerialStore, txn: &Txn, outcome: Outcome) -> Result<Option<Answer>, NoMemory> {
+    if store.is_spent() {
+        Err(NoMemory)
     } else {
-        Verdict::No { rule, line }
-    };
-    let verdict = audit(alloc, history, order)?;
-    assert_eq!(rt; verdict, wanted);
-    Ok(())
+        store.run(txn, outcome)
+    }
 }
 
-#[test]
-fn a_sum_is_judged(rt: HostRuntime) -> Result<(), Fail> {
-    let alloc = rt.alloc();
-    expect(
-        &rt,
-        &[Event::Add(A), Event::Sum(A, 5)],
-        &[(A, Outcome::Done)],
-        0,
-        0,
-        alloc,
-    )?;
-    expect(
-        &rt,
-        &[Event::Add(A), Event::Sum(A, 6)],
-        &[(A, Outcome::Done)],
-        3,
-        2,
-        alloc,
-    )?;
-    expect(&rt, &[Event::Add(A), Event::Sum(A, 5)], &[], 2, 2, alloc)?;
-    Ok(())
-}
-
-#[test]
-fn rule_1_is_of_the_order(rt: HostRuntime) -> Result<(), Fail> {
-    let alloc = rt.alloc();
-    // an id twice, an id that was never submitted, and each kind's wrong outcome
-    expect(
-        &rt,
-        &[Event::Add(A)],
-        &[(A, Outcome::Done), (A, Outcome::Done)],
-        1,
-        2,
-        alloc,
-    )?;
-    expect(
-        &rt,
-        &[Event::Add(A)],
-        &[(A, Outcome::Done), (B, Outcome::Done)],
-        1,
-        2,
-        alloc,
-    )?;
-    expect(&rt, &[Event::Add(A)], &[(A, Outcome::Pending)], 1, 1, alloc)?;
-    expect(
-        &rt,
-        &[Event::Move(C, 0)],
-        &[(C, Outcome::Done)],
-        1,
-        1,
-        alloc,
-    )?;
-    // the first of two lines, and rule 1 before rule 2
-    expect(
-        &rt,
-        &[Event::Add(A), Event::Add(B)],
-        &[
-            (B, Outcome::Done),
-            (A, Outcome::Pending),
-            (B, Outcome::Done),
-        ],
-        1,
-        2,
-        alloc,
-    )?;
-    expect(
-        &rt,
-        &[Event::Add(A), Event::Sum(A, 6)],
-        &[(B, Outcome::Done)],
-        1,
-        1,
-        alloc,
-    )?;
-    Ok(())
-}
-
-#[test]
-fn rule_2_asks_for_lines(rt: HostRuntime) -> Result<(), Fail> {
-    let alloc = rt.alloc();
-    // what read, and what was told to have committed, has a line
-    expect(
-        &rt,
-        &[Event::Move(C, 0), Event::Read(C, None, None)],
-        &[],
-        2,
-        2,
-        alloc,
-    )?;
-    expect(
-        &rt,
-        &[Event::Move(C, 0), Event::Told(C, true)],
-        &[],
-        2,
-        2,
-        alloc,
-    )?;
-    // the first of two events, and rule 2 before rule 3
-    expect(
-        &rt,
-        &[
-            Event::Add(A),
-            Event::Add(B),
-            Event::Sum(B, 6),
-            Event::Sum(A, 6),
-        ],
-        &[],
-        2,
-        3,
-        alloc,
-    )?;
-    expect(
-        &rt,
-        &[
-            Event::Add(A),
-            Event::Add(B),
-            Event::Sum(A, 6),
-            Event::Sum(B, 5),
-        ],
-        &[(A, Outcome::Done)],
-        2,
-        4,
-        alloc,
-    )?;
-    Ok(())
-}
-
-#[test]
-fn rule_3_asks_for_guards_first(rt: HostRuntime) -> Result<(), Fail> {
-    let alloc = rt.alloc();
-    // a guard is asked at the point of its line, before its own settings
-    expect(
-        &rt,
-        &[Event::Move(C, 1)],
-        &[(C, Outcome::Committed)],
-        3,
-        1,
-        alloc,
-    )?;
-    expect(
-        &rt,
-        &[
-            Event::Put(A),
-            Event::Move(C, 30),
-            Event::Read(C, Some(30), None),
-            Event::Ended(C, true),
-        ],
-        &[(A, Outcome::Done), (C, Outcome::Committed)],
-        0,
-        0,
-        alloc,
-    )?;
-    // the first of two lines
-    expect(
-        &rt,
-        &[Event::Put(A), Event::Move(C, 31), Event::Move(E, 31)],
-        &[
-            (A, Outcome::Done),
-            (C, Outcome::Committed),
-            (E, Outcome::Committed),
-        ],
-        3,
-        2,
-        alloc,
-    )?;
-    // a guard before an event
-    expect(
-        &rt,
-        &[
-            Event::Add(A),
-            Event::Sum(A, 6),
-            Event::Get(B),
-            Event::Move(C, 6),
-        ],
-        &[
-            (A, Outcome::Done),
-            (B, Outcome::Done),
-            (C, Outcome::Committed),
-        ],
-        3,
-        3,
-        alloc,
-    )?;
-    // no guard is asked of what doesn't commit
-    expect(
-        &rt,
-        &[Event::Move(C, 1)],
-        &[(C, Outcome::Aborted)],
-        0,
-        0,
-        alloc,
-    )?;
-    Ok(())
-}
-
-#[test]
-fn rule_3_compares_events_with_the_run(rt: HostRuntime) -> Result<(), Fail> {
-    let alloc = rt.alloc();
-    // what is read are the values before its settings
-    expect(
-        &rt,
-        &[
-            Event::Put(A),
-            Event::Move(C, 30),
-            Event::Read(C, Some(0), Some(30)),
-        ],
-        &[(A, Outcome::Done), (C, Outcome::Committed)],
-        3,
-        3,
-        alloc,
-    )?;
-    // a commit writes, and what is pending doesn't
-    expect(
-        &rt,
-        &[
-            Event::Put(A),
-            Event::Move(C, 30),
-            Event::GetBoth(B),
-            Event::Values(B, Some(0), Some(30)),
-        ],
-        &[
-            (A, Outcome::Done),
-            (C, Outcome::Committed),
-            (B, Outcome::Done),
-        ],
-        0,
-        0,
-        alloc,
-    )?;
-    expect(
-        &rt,
-        &[
-            Event::Put(A),
-            Event::Move(C, 30),
-            Event::GetBoth(B),
-            Event::Values(B, Some(30), None),
-        ],
-        &[
-            (A, Outcome::Done),
-            (C, Outcome::Pending),
-            (B, Outcome::Done),
-        ],
-        0,
-        0,
-        alloc,
-    )?;
-    expect(
-        &rt,
-        &[
-            Event::Put(A),
-            Event::Move(C, 30),
-            Event::GetBoth(B),
-            Event::Values(B, Some(0), Some(30)),
-        ],
-        &[
-            (A, Outcome::Done),
-            (C, Outcome::Pending),
-            (B, Outcome::Done),
-        ],
-        3,
-        4,
-        alloc,
-    )?;
-    // an answer of a general transaction is its outcome
-    expect(
-        &rt,
-        &[Event::Move(C, 0), Event::Ended(C, true)],
-        &[(C, Outcome::Aborted)],
-        3,
-        2,
-        alloc,
-    )?;
-    expect(
-        &rt,
-        &[Event::Move(C, 0), Event::Sum(C, 5)],
-        &[(C, Outcome::Committed)],
-        3,
-        2,
-        alloc,
-    )?;
-    // the first of two events
-    expect(
-        &rt,
-        &[
-            Event::Add(A),
-            Event::Add(B),
-            Event::Sum(B, 6),
-            Event::Sum(A, 6),
-        ],
-        &[(A, Outcome::Done), (B, Outcome::Done)],
-        3,
-        3,
-        alloc,
-    )?;
-    Ok(())
-}
-
-#[test]
-fn rule_4_asks_for_the_order_of_answers(rt: HostRuntime) -> Result<(), Fail> {
-    let alloc = rt.alloc();
-    // what was answered before a submit stands before it
-    expect(
-        &rt,
-        &[
-            Event::Put(A),
-            Event::Done(A),
-            Event::PutOther(B),
-            Event::Done(B),
-        ],
-        &[(B, Outcome::Done), (A, Outcome::Done)],
-        4,
-        3,
-        alloc,
-    )?;
-    expect(
-        &rt,
-        &[
-            Event::Put(A),
-            Event::PutOther(B),
-            Event::Done(A),
-            Event::Done(B),
-        ],
-        &[(B, Outcome::Done), (A, Outcome::Done)],
-        0,
-        0,
-        alloc,
-    )?;
-    // the first of two submits
-    expect(
-        &rt,
-        &[
-            Event::Put(A),
-            Event::Done(A),
-            Event::PutOther(B),
-            Event::PutOther(C),
-        ],
-        &[(C, Outcome::Done), (B, Outcome::Done), (A, Outcome::Done)],
-        4,
-        3,
-        alloc,
-    )?;
-    // a line of a lesser number is answered last
-    expect(
-        &rt,
-        &[
-            Event::Put(A),
-            Event::PutOther(B),
-            Event::Done(B),
-            Event::Done(A),
-            Event::PutOther(C),
-        ],
-        &[(A, Outcome::Done), (C, Outcome::Done), (B, Outcome::Done)],
-        4,
-        5,
-        alloc,
-    )?;
-    // rule 3 before rule 4
-    expect(
-        &rt,
-        &[
-            Event::Add(A),
-            Event::Sum(A, 5),
-            Event::Get(B),
-            Event::Sum(B, 5),
-        ],
-        &[(B, Outcome::Done), (A, Outcome::Done)],
-        3,
-        4,
-        alloc,
-    )?;
-    Ok(())
-}
-
-#[test]
-fn rule_5_asks_for_the_outcome(rt: HostRuntime) -> Result<(), Fail> {
-    let alloc = rt.alloc();
-    // what was told is the outcome, or what has no line was aborted
-    expect(
-        &rt,
-        &[Event::Move(C, 0), Event::Told(C, false)],
-        &[],
-        0,
-        0,
-        alloc,
-    )?;
-    expect(
-        &rt,
-        &[Event::Move(C, 0), Event::Told(C, false)],
-        &[(C, Outcome::Committed)],
-        5,
-        2,
-        alloc,
-    )?;
-    expect(
-        &rt,
-        &[Event::Move(C, 0), Event::Told(C, true)],
-        &[(C, Outcome::Aborted)],
-        5,
-        2,
-        alloc,
-    )?;
-    expect(
-        &rt,
-        &[Event::Move(C, 0), Event::Told(C, false)],
-        &[(C, Outcome::Pending)],
-        5,
-        2,
-        alloc,
-    )?;
-    // the first of two events, and rule 4 before rule 5
-    expect(
-        &rt,
-        &[
-            Event::Move(C, 0),
-            Event::Told(C, true),
-            Event::Told(C, false),
-            Event::Told(C, false),
-        ],
-        &[(C, Outcome::Committed)],
-        5,
-        3,
-        alloc,
-    )?;
-    expect(
-        &rt,
-        &[
-            Event::Move(C, 0),
-            Event::Told(C, true),
-            Event::Put(A),
-            Event::Done(A),
-            Event::PutOther(B),
-        ],
-        &[
-            (B, Outcome::Done),
-            (A, Outcome::Done),
-            (C, Outcome::Aborted),
-        ],
-        4,
-        5,
-        alloc,
-    )?;
-    Ok(())
+fn values(store: &SerialStore) -> Result<(Option<u64>, Option<u64>, u64), Fail> {
+    if store.is_spent() {
+        Ok((None, None, 0))
+    } else {
+        Ok((
+            store.value_of(&key_a()?),
+            store.value_of(&key_b()?),
+            store.total(),
+        ))
+    }
 }
 
 #[test]
 fn transactions_run_one_after_another(rt: HostRuntime) -> Result<(), Fail> {
     let alloc = rt.alloc();
-    let a = key(&rt, 0, b"a");
-    let b = key(&rt, 1, b"b");
     let mut store = SerialStore::new(alloc);
-    let put = Txn::Whole(row(alloc, &[Op::Put(a, 40), Op::Put(b, u64::MAX)])?);
-    let answer = store.run(&put, Outcome::Done)?;
-    assert!(rt; answer.is_some());
-    assert_eq!(rt; store.value_of(&a), Some(40));
-    assert_eq!(rt; store.total(), 39);
-    let plan = Txn::General(move_30(&rt, alloc, 40)?);
-    let answer = store.run(&plan, Outcome::Pending)?;
-    assert!(rt; matches!(answer, Some(Answer::Values(_))));
-    assert_eq!(rt; store.value_of(&a), Some(40));
-    let answer = store.run(&plan, Outcome::Committed)?;
-    assert!(rt; answer.is_some());
-    assert_eq!(rt; store.value_of(&a), Some(10));
-    assert_eq!(rt; store.value_of(&b), Some(29));
-    let answer = store.run(&plan, Outcome::Committed)?;
-    assert!(rt; answer.is_none());
-    assert_eq!(rt; store.total(), 39);
-    assert!(rt; !store.is_spent());
+    let put = whole_of_two(alloc, Op::Put(key_a()?, 40), Op::Put(key_b()?, u64::MAX))?;
+    let plan = transfer(alloc, &key_a()?, &key_b()?, 40)?;
+    assert!(rt; run(&mut store, &put, Outcome::Done)?.is_some());
+    // the sum is modulo 2^64
+    assert_eq!(rt; values(&store)?, (Some(40), Some(u64::MAX), 39));
+    assert!(rt; run(&mut store, &plan, Outcome::Pending)?.is_some());
+    assert_eq!(rt; values(&store)?, (Some(40), Some(u64::MAX), 39));
+    assert!(rt; run(&mut store, &plan, Outcome::Committed)?.is_some());
+    assert_eq!(rt; values(&store)?, (Some(10), Some(29), 39));
+    assert!(rt; run(&mut store, &plan, Outcome::Committed)?.is_none());
+    assert_eq!(rt; values(&store)?, (Some(10), Some(29), 39));
     Ok(())
 }
