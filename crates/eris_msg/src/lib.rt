@@ -2,8 +2,10 @@
 //! into a stream of bytes and taken out of it.
 #![tactic(auto)]
 
+mod fault;
 mod message;
 mod outgoing;
 
+pub use fault::{DecodeFault, DecodeReason};
 pub use message::Message;
 pub use outgoing::Outgoing;
