@@ -1,0 +1,6 @@
+mod BodyLaws
+mod FieldLaws
+mod Laws
+mod MessageLaws
+mod PartLaws
+mod TagLaws
