@@ -3,8 +3,11 @@
 #![tactic(auto)]
 
 mod fault;
+mod input;
 mod message;
 mod outgoing;
+mod read_fields;
+mod read_lists;
 
 pub use fault::{DecodeFault, DecodeReason};
 pub use message::Message;
