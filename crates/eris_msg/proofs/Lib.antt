@@ -1,10 +1,12 @@
 mod BodyLaws
 mod Chain
+mod Decodes
 mod FieldLaws
 mod LastItems
 mod Laws
 mod MessageLaws
 mod NameBytes
 mod PartLaws
+mod PartOrder
 mod StampOrder
 mod TagLaws

@@ -2,13 +2,17 @@
 //! into a stream of bytes and taken out of it.
 #![tactic(auto)]
 
+mod decoding;
 mod fault;
 mod input;
 mod message;
 mod outgoing;
 mod read_fields;
 mod read_lists;
+mod read_messages;
+mod read_parts;
 
+pub use decoding::decode;
 pub use fault::{DecodeFault, DecodeReason};
 pub use message::Message;
 pub use outgoing::Outgoing;
