@@ -8,5 +8,6 @@ mod MessageLaws
 mod NameBytes
 mod PartLaws
 mod PartOrder
+mod Sizes
 mod StampOrder
 mod TagLaws
