@@ -1,0 +1,4 @@
+pub mod SequencerValues
+pub mod Sequencers
+pub mod SequencersValues
+pub mod Stamps
