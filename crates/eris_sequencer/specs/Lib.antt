@@ -1,3 +1,4 @@
+pub mod Asks
 pub mod SequencerValues
 pub mod Sequencers
 pub mod SequencersValues

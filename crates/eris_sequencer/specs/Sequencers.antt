@@ -1,5 +1,5 @@
 -- The sequencers of all epochs: a list in which the one of epoch e stands at index e.
-use Rattle.std.specs.Prelude.{ℕ, ◌+◌, ◌-◌, Bool, not, ◌&&◌, nat_lt, Option, Some, None, List, [], ◌∷◌, ◌++◌, length, slice_get, slice_set, if◌then◌else◌}
+use Rattle.std.specs.Prelude.{◌-◌, Bool, ◌&&◌, nat_lt, Option, Some, None, List, [], ◌∷◌, ◌++◌, length, slice_get, slice_set, if◌then◌else◌}
 use Rattle.std.specs.List.{list_all}
 use Rattle.eris_base.specs.declared.config.Config.{Config}
 use Rattle.eris_base.specs.declared.ids.ClientId.{ClientId}
