@@ -71,11 +71,11 @@ impl DropCount {
 
     /// Whether the place is decided: for every shard there is a view with notes of f+1 different replicas
     /// of it, that view's learner among them. It takes no memory.
-    #[tactic(auto, unfolding(crate::specs::Notes::decided))]
     pub fn decided(&self, place: Place) -> bool
         ensures exact { result ≡ decided self.now.config self.now.notes place }
+        ensures meaning { IsTrue result ↔ IsDecided self.now.config self.now.notes place }
     {
-        is_decided(self.config.shards(), self.config.f(), self.notes.as_slice(), place)
+        is_decided(&self.config, self.notes.as_slice(), place)
     }
 
     /// Removes the notes of the place. It takes no memory.

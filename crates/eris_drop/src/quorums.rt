@@ -1,13 +1,22 @@
-ghost use Rattle.std.specs.Prelude.{◌≡◌, ◌≤◌, ◌&&◌, not, length};
+ghost use Rattle.std.specs.Prelude.{◌≡◌, ◌≤◌, ◌&&◌, ◌↔◌, not, length, IsTrue};
 ghost use Rattle.std.specs.List.{list_all, range_with_len};
 ghost use Rattle.eris_base.specs.Quorums.{has_replica, different_replicas};
-ghost use Rattle.eris_drop.specs.Notes.{is_noted_in, noted_replicas, is_drop_quorum, has_drop_quorum};
+ghost use Rattle.eris_drop.specs.Notes.{is_noted_in, noted_replicas, is_drop_quorum, has_drop_quorum, decided, IsDecided};
 
 use crate::drop_note::{DropNote, is_same_place};
-use eris_base::{Place, ReplicaId, ShardId, View, learner};
+use eris_base::{Config, Place, ReplicaId, ShardId, View, learner};
+
+/// Whether the place is decided.
+#[tactic(auto, unfolding(crate::specs::Notes::decided))]
+pub fn is_decided(config: &Config, notes: &[DropNote], place: Place) -> bool
+    ensures exact { result ≡ decided config.now notes.now place }
+    ensures meaning { IsTrue result ↔ IsDecided config.now notes.now place }
+{
+    has_all_quorums(config.shards(), config.f(), notes, place)
+}
 
 /// Whether every shard has a quorum of notes of the place.
-pub fn is_decided(shards: u8, f: u8, notes: &[DropNote], place: Place) -> bool
+fn has_all_quorums(shards: u8, f: u8, notes: &[DropNote], place: Place) -> bool
     requires { f ≤ 3 }
     ensures { result ≡ list_all (λ number. has_drop_quorum f notes.now place (record { 0 = number })) (range_with_len 0 shards) }
 {
