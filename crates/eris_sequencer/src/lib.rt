@@ -2,7 +2,10 @@
 //! a packet its next number in one step.
 #![tactic(auto)]
 
+mod counters;
 mod sequencer;
+mod stamp_fault;
 mod stamping;
 
 pub use sequencer::Sequencer;
+pub use stamp_fault::StampFault;
