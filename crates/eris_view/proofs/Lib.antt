@@ -1,0 +1,2 @@
+-- Lemmas about the definitions of this crate.
+pub mod NotedParts

@@ -1,2 +1,4 @@
+pub mod AckCells
 pub mod AckTallies
 pub mod ViewTallies
+pub mod ViewTallyFacts
