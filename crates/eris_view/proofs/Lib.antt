@@ -1,2 +1,3 @@
 -- Lemmas about the definitions of this crate.
+pub mod Acks
 pub mod NotedParts

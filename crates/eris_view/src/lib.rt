@@ -2,6 +2,8 @@
 //! acknowledged to the learner of a view.
 #![tactic(auto)]
 
+mod ack_tally;
 mod view_tally;
 
+pub use ack_tally::AckTally;
 pub use view_tally::ViewTally;
