@@ -9,19 +9,19 @@ use Rattle.eris_base.specs.declared.ids.ReplicaId.{ReplicaId}
 use Rattle.eris_base.specs.Each.{Each}
 use Rattle.eris_base.specs.Quorums.{same_replica}
 use Rattle.eris_view.specs.AckCells.{acks_from, cell_has, length_after, offered}
-use Rattle.eris_view.proofs.NotedParts.{is_lt-nat_lt}
+use Rattle.eris_view.proofs.Replicas.{is_lt-nat_lt}
 use Rattle.eris_view.specs.AckTallies.{AckTallyValue, with_ack, how_many_have, quorum_has, greatest, settled, IsSettled}
 
-abbrev Ack : Type 0
+abbrev pub Ack : Type 0
 Ack = ReplicaId × ℕ
 
-le_from : (a b : ℕ) → nat_le a b ≡ true → a ≤ b
+pub le_from : (a b : ℕ) → nat_le a b ≡ true → a ≤ b
 le_from a b h = grind (arith, nat_tests)
 
 le_to : (a b : ℕ) → a ≤ b → nat_le a b ≡ true
 le_to a b h = grind (arith, nat_tests)
 
-not_le_from : (a b : ℕ) → nat_le a b ≡ false → b < a
+pub not_le_from : (a b : ℕ) → nat_le a b ≡ false → b < a
 not_le_from a b h = grind (arith, nat_tests)
 
 -- ---- one more length

@@ -119,7 +119,7 @@ fn place_of(noted: &[(ReplicaId, Part)], replica: ReplicaId) -> Result<usize, us
 }
 
 /// How many different replicas there are with this one.
-#[tactic(auto, using(crate::proofs::NotedParts::count_rules))]
+#[tactic(auto, using(crate::proofs::Replicas::count_rules))]
 fn count_with(noted: &[(ReplicaId, Part)], own: ReplicaId) -> usize
     requires { IsTrue (replicas_ascend noted.now) }
     ensures { result ≡ different_replicas (own ∷ replicas_of noted.now) }

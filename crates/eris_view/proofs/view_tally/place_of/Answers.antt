@@ -1,7 +1,8 @@
 use Rattle.std.proofs.Common.{◌≡◌, ◌≤◌, ◌∙◌, ◌++◌, ℕ, ap, sym, subst, arith, length, take, drop, insert}
 use Rattle.eris_log.specs.PartValues.{PartValue}
 use Rattle.eris_view.specs.ViewTallies.{with_part}
-use Rattle.eris_view.proofs.NotedParts.{is_lt-nat_lt, with_part-past, with_part-free, with_part-found, with_part-end}
+use Rattle.eris_view.proofs.NotedParts.{with_part-past, with_part-free, with_part-found, with_part-end}
+use Rattle.eris_view.proofs.Replicas.{is_lt-nat_lt}
 use Rattle.eris_view.proofs.view_tally.place_of.Goals as goal
 
 pub returns-then-lt-clause-free : goal.returns-then-lt-clause-free
