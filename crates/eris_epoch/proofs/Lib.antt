@@ -1,0 +1,5 @@
+-- Lemmas about the definitions of this crate.
+pub mod Additions
+pub mod Heard
+pub mod SameLaws
+pub mod SortLaws

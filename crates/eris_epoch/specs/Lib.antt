@@ -1,0 +1,6 @@
+pub mod Closing
+pub mod ClosingSteps
+pub mod EpochTallies
+pub mod SamePackets
+pub mod Sorting
+pub mod TallyFacts
