@@ -114,3 +114,15 @@ pub(crate) fn find_decided(
     }
     Ok(None)
 }
+
+/// Whether an id is decided.
+pub(crate) fn is_decided(decided: &[Decided], id: TxnId) -> bool
+    ensures { result ≡ is_decided (decided_in decided.now id) }
+{
+    for entry in decided {
+        if is_same_id(entry.id, id) {
+            return true;
+        }
+    }
+    false
+}

@@ -4,6 +4,11 @@
 mod cells;
 mod cutting;
 mod ledger;
+mod lock_store;
 mod locking;
+mod packets;
+mod plain_store;
+mod run;
 
 pub use eris_locks::Done;
+pub use lock_store::LockStore;
