@@ -1,9 +1,9 @@
-ghost use Rattle.std.specs.Prelude.{◌≡◌, false, is_err, IfOk, OnOk};
+ghost use Rattle.std.specs.Prelude.{◌≡◌, List, [], ◌++◌, false, is_err, IfOk, OnOk};
 ghost use Rattle.eris_base.specs.Each.{Each};
 ghost use Rattle.eris_locks.specs.declared.shard_packet.ShardPacket.{ShardPacket};
 ghost use Rattle.eris_locks.specs.Law.{plain_end, IsRightDone};
 ghost use Rattle.eris_locks.specs.LockTable.{run_dones, run_state, step};
-ghost use Rattle.eris_locks.specs.Shards.{cut, names_shard, on_shard};
+ghost use Rattle.eris_locks.specs.Shards.{cut, on_shard};
 ghost use Rattle.eris_locks.specs.States.{empty};
 ghost use Rattle.eris_locks.specs.WellFormed.{WellFormed};
 
@@ -83,6 +83,16 @@ impl LockStore {
         ensures state { OnOk result (state_of self.new ≡ run_state (state_of self.old) (on_shard self.old.shard packets.now)) }
         ensures shard { self.new.shard ≡ self.old.shard }
         ensures spent { self.new.spent ≡ is_err result }
+        ensures answers { IfOk result (λ dones. (before : List ShardPacket) → state_of self.old ≡ run_state empty before
+            → let came = before ++ on_shard self.old.shard packets.now in
+            WellFormed came → Each (IsRightDone came) dones) }
+        ensures beginning { IfOk result (λ dones. (before rest : List ShardPacket) → state_of self.old ≡ run_state empty before
+            → let all = (before ++ on_shard self.old.shard packets.now) ++ rest in
+            WellFormed all → Each (IsRightDone all) dones) }
+        ensures values { OnOk result ((before : List ShardPacket) → state_of self.old ≡ run_state empty before
+            → (state_of self.new).holding ≡ []
+            → let came = before ++ on_shard self.old.shard packets.now in
+            ((state_of self.new).waiting ≡ []) × (WellFormed came → (state_of self.new).values ≡ plain_end came)) }
     {
         let dones = run_plain(self.alloc, self.shard, &mut self.store, packets);
         self.spent = dones.is_err();
