@@ -1,0 +1,14 @@
+//! A shard's store with locks, and why its answers are those of a plain run without locks and waiting.
+#![tactic(auto)]
+
+mod cells;
+mod cutting;
+mod ledger;
+mod lock_store;
+mod locking;
+mod packets;
+mod plain_store;
+mod run;
+
+pub use eris_locks::Done;
+pub use lock_store::LockStore;

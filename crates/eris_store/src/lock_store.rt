@@ -1,0 +1,148 @@
+ghost use Rattle.std.specs.Prelude.{◌≡◌, List, [], ◌++◌, false, is_err, IfOk, OnOk};
+ghost use Rattle.eris_base.specs.Each.{Each};
+ghost use Rattle.eris_locks.specs.declared.shard_packet.ShardPacket.{ShardPacket};
+ghost use Rattle.eris_locks.specs.Law.{plain_end, IsRightDone};
+ghost use Rattle.eris_locks.specs.LockTable.{run_dones, run_state, step};
+ghost use Rattle.eris_locks.specs.Shards.{cut, on_shard};
+ghost use Rattle.eris_locks.specs.States.{empty};
+ghost use Rattle.eris_locks.specs.WellFormed.{WellFormed};
+
+use crate::plain_store::PlainStore;
+use crate::run::{run_plain, step_plain};
+use eris_base::{NoMemory, Phase, Row, ShardId, TxnId};
+use eris_locks::Done;
+use eris_txn::{Answer, Key, Packet};
+use std::alloc::Global;
+use std::marker::Model;
+
+/// The store of one shard. Contracts see, by `state_of`, the state of the lock table that it stands for.
+#[derive(Drop)]
+pub struct LockStore {
+    alloc: Global,
+    shard: ShardId,
+    store: PlainStore,
+    spent: bool,
+}
+
+impl Model for LockStore {
+    ghost use Rattle.eris_store.specs.Stores.{StoreValue};
+
+    ghost Value = { StoreValue };
+
+    ghost view = { λ store. record { shard = store.shard; kept = store.store; spent = store.spent } };
+}
+
+impl LockStore {
+    ghost use Rattle.eris_store.specs.Stores.{state_of, stepped};
+
+    /// The empty store of a shard. It takes no memory.
+    pub fn new(alloc: Global, shard: ShardId) -> LockStore
+        ensures state { state_of result ≡ empty }
+        ensures shard { result.shard ≡ shard }
+        ensures spent { result.spent ≡ false }
+    {
+        LockStore {
+            alloc,
+            shard,
+            store: PlainStore::new(alloc),
+            spent: false,
+        }
+    }
+
+    /// Takes one packet, of which it sees what is on keys of its shard, and gives answers: the step of the
+    /// lock table. It needs a store that isn't spent. The packets of a shard come in the order of their
+    /// places there; the table says what a step does with any.
+    ///
+    /// # Errors
+    ///
+    /// [`NoMemory`] where an allocation was refused; the store is then spent.
+    pub fn step(&mut self, packet: &Packet) -> Result<Row<Done>, NoMemory>
+        requires { self.old.spent ≡ false }
+        ensures exact { IfOk result (λ dones. stepped self.new dones ≡ step (state_of self.old) (cut self.old.shard packet.now)) }
+        ensures shard { self.new.shard ≡ self.old.shard }
+        ensures spent { self.new.spent ≡ is_err result }
+    {
+        let done = step_plain(self.alloc, self.shard, &mut self.store, packet);
+        self.spent = done.is_err();
+        done
+    }
+
+    /// Takes those of the packets that name the shard, one after the other, and joins their answers in
+    /// order. It needs a store that isn't spent.
+    ///
+    /// Over a well-formed list each answer is the one of the plain run, in which there is no lock and no
+    /// waiting, as `IsRightDone` says; also where the store took packets before, and whatever packets come
+    /// later. Where no preliminary holds at the end, nothing waits, and the values are the plain run's.
+    ///
+    /// # Errors
+    ///
+    /// [`NoMemory`] where an allocation was refused; the store is then spent.
+    pub fn step_all(&mut self, packets: &[Packet]) -> Result<Row<Done>, NoMemory>
+        requires { self.old.spent ≡ false }
+        ensures dones { IfOk result (λ dones. dones ≡ run_dones (state_of self.old) (on_shard self.old.shard packets.now)) }
+        ensures state { OnOk result (state_of self.new ≡ run_state (state_of self.old) (on_shard self.old.shard packets.now)) }
+        ensures shard { self.new.shard ≡ self.old.shard }
+        ensures spent { self.new.spent ≡ is_err result }
+        ensures answers { IfOk result (λ dones. (before : List ShardPacket) → state_of self.old ≡ run_state empty before
+            → let came = before ++ on_shard self.old.shard packets.now in
+            WellFormed came → Each (IsRightDone came) dones) }
+        ensures beginning { IfOk result (λ dones. (before rest : List ShardPacket) → state_of self.old ≡ run_state empty before
+            → let all = (before ++ on_shard self.old.shard packets.now) ++ rest in
+            WellFormed all → Each (IsRightDone all) dones) }
+        ensures values { OnOk result ((before : List ShardPacket) → state_of self.old ≡ run_state empty before
+            → (state_of self.new).holding ≡ []
+            → let came = before ++ on_shard self.old.shard packets.now in
+            ((state_of self.new).waiting ≡ []) × (WellFormed came → (state_of self.new).values ≡ plain_end came)) }
+    {
+        let dones = run_plain(self.alloc, self.shard, &mut self.store, packets);
+        self.spent = dones.is_err();
+        dones
+    }
+
+    /// The answer that is kept for an id and a phase. None exactly where none is kept; an outcome is
+    /// decided and not kept so. It needs a store that isn't spent.
+    ///
+    /// # Errors
+    ///
+    /// [`NoMemory`] where an allocation was refused.
+    pub fn recorded(&self, id: TxnId, phase: Phase) -> Result<Option<Answer>, NoMemory>
+        requires { self.now.spent ≡ false }
+        ensures { IfOk result (λ found. found ≡ (state_of self.now).recorded id phase) }
+    {
+        self.store.recorded(id, phase)
+    }
+
+    /// An equal store. It needs one that isn't spent.
+    ///
+    /// # Errors
+    ///
+    /// [`NoMemory`] where an allocation was refused.
+    pub fn copy(&self) -> Result<LockStore, NoMemory>
+        requires { self.now.spent ≡ false }
+        ensures { IfOk result (λ made. made ≡ self.now) }
+    {
+        Ok(LockStore {
+            alloc: self.alloc,
+            shard: self.shard,
+            store: self.store.copy()?,
+            spent: self.spent,
+        })
+    }
+
+    /// The value of a key, None exactly where it has none. It needs a store that isn't spent. It takes no
+    /// memory.
+    pub fn value_of(&self, key: &Key) -> Option<u64>
+        requires { self.now.spent ≡ false }
+        ensures { result ≡ (state_of self.now).values key.now }
+    {
+        self.store.value_of(key)
+    }
+
+    /// Whether a call was refused memory that changes the store. Its other calls then may not be made any
+    /// more.
+    pub fn is_spent(&self) -> bool
+        ensures { result ≡ self.now.spent }
+    {
+        self.spent
+    }
+}
