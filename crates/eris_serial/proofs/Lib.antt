@@ -1,0 +1,2 @@
+pub mod AtShard
+pub mod Parts

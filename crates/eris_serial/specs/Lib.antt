@@ -1,0 +1,4 @@
+pub mod Transactions
+pub mod Shares
+pub mod Evidence
+pub mod Cuts
