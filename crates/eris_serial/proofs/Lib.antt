@@ -1,2 +1,5 @@
 pub mod AtShard
 pub mod Parts
+pub mod LineSteps
+pub mod Sound
+pub mod ShardByShard
