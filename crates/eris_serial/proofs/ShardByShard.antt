@@ -151,7 +151,7 @@ module _ (txn : TxnId → Txn) (runs : ShardId → List Served) (lasts : ShardId
   left-here shard id (Abort keys) decided there later values others writes shares own sound fits agree same is sets keeps = absurd (both_ways _ own refl)
 
   -- STEPS OF ALL SHARDS AT ONCE: a conclusory packet
-  after-conclusory : (values : Values) (seen decided : List TxnId) (packet : Packet) (packets : List Packet) → Sound txn runs packet → is_conclusory packet.body ≡ true
+  pub after-conclusory : (values : Values) (seen decided : List TxnId) (packet : Packet) (packets : List Packet) → Sound txn runs packet → is_conclusory packet.body ≡ true
       → AllMeet txn runs lasts values seen decided (packet ∷ packets) → AllMeet txn runs lasts values seen (packet.id ∷ decided) packets
   after-conclusory values seen decided packet packets sound concludes meet shard = by_test (names_shard shard packet) refl (meet shard).0 (meet shard).1
     where
@@ -181,7 +181,7 @@ module _ (txn : TxnId → Txn) (runs : ShardId → List Served) (lasts : ShardId
       )
 
   -- a packet of a transaction that came
-  after-repeated : (values : Values) (seen decided : List TxnId) (packet : Packet) (packets : List Packet) → Sound txn runs packet → is_conclusory packet.body ≡ false
+  pub after-repeated : (values : Values) (seen decided : List TxnId) (packet : Packet) (packets : List Packet) → Sound txn runs packet → is_conclusory packet.body ≡ false
       → is_among packet.id seen ≡ true
       → AllMeet txn runs lasts values seen decided (packet ∷ packets) → AllMeet txn runs lasts values seen decided packets
   after-repeated values seen decided packet packets sound own again meet shard = by_test (names_shard shard packet) refl (meet shard).0 (meet shard).1

@@ -1,0 +1,84 @@
+-- What evidence says of the order alone: where its packets come from, and that their transactions can be run.
+use Rattle.std.proofs.Common.{◌≡◌, ℕ, Bool, true, false, cond, Option, Some, None, is_some, unwrap_or, List, [], ◌∷◌, refl, ap, sym, ◌∙◌, subst, ◌⊎◌, inl, inr}
+use Rattle.std.proofs.lemmas.Bool.{both_ways}
+use Rattle.std.specs.Prelude.{IsTrue}
+use Rattle.eris_base.specs.declared.ids.TxnId.{TxnId}
+use Rattle.eris_base.specs.Each.{Each}
+use Rattle.eris_base.specs.TxnIds.{same_id}
+use Rattle.eris_base.proofs.Each.{Each-weaker}
+use Rattle.eris_txn.specs.declared.body.Body.{Body}
+use Rattle.eris_txn.specs.declared.body.Body.TheVariants.{Independent, Prelim, Commit, Abort}
+use Rattle.eris_txn.specs.declared.history.HistoryEvent.{HistoryEvent}
+use Rattle.eris_txn.specs.declared.history.HistoryEvent.TheVariants.{Submit, Read, Answer as Answered, Told}
+use Rattle.eris_txn.specs.declared.packet.Packet.{Packet}
+use Rattle.eris_txn.specs.declared.txn.Txn.{Txn}
+use Rattle.eris_txn.specs.declared.txn.Txn.TheVariants.{Whole, General}
+use Rattle.eris_txn.specs.PlanValues.{PlanValue}
+use Rattle.eris_txn.specs.Plans.{guards_hold, value_in, writes_from}
+use Rattle.eris_audit.specs.Histories.{first_submit, is_submitted, txn_of}
+use Rattle.eris_serial.specs.Evidence.{Counted, Evidence, HasCommitEvidence, HasCommitOrigin, IsIn, Origins, SubmitsWell}
+use Rattle.eris_serial.specs.Transactions.{CanRun, CanRunPlan}
+
+-- a property of each item, of one that stands there
+pub Each-in : {X : Type 0} (P : X → Type 0) (items : List X) (item : X) → Each P items → IsIn item items → P item
+Each-in P [] item each there = absurd there
+Each-in P (other ∷ items) item each (inl is) = subst P is each.0
+Each-in P (other ∷ items) item each (inr there) = Each-in P items item each.1 there
+
+pub Each-of : {X : Type 0} (P : X → Type 0) (items : List X) → ((item : X) → IsIn item items → P item) → Each P items
+Each-of P [] all = tt
+Each-of P (item ∷ items) all = (all item (inl refl), Each-of P items (λ other there. all other (inr there)))
+
+pub same_plan : (txn : Txn) (some other : PlanValue) → txn ≡ General some → txn ≡ General other → some ≡ other
+same_plan txn some other is is' = cc
+
+-- a general transaction was submitted
+general_submitted : (history : List HistoryEvent) (id : TxnId) (plan : PlanValue) → txn_of history id ≡ General plan → is_submitted history id ≡ true
+general_submitted history id plan = by_first (first_submit history id)
+  where
+    by_first : (found : Option Txn) → unwrap_or found (Whole []) ≡ General plan → is_some found ≡ true
+    by_first None is = cc
+    by_first (Some txn) is = refl
+
+-- a submitted transaction can be run
+pub txn_can_run : (history : List HistoryEvent) (id : TxnId) → Each SubmitsWell history → is_submitted history id ≡ true → CanRun (txn_of history id)
+txn_can_run [] id well submitted = absurd (both_ways _ refl submitted)
+txn_can_run (Submit other txn ∷ history) id well submitted = by_test (same_id other id) submitted (txn_can_run history id well.1)
+  where
+    by_test : (test : Bool) → is_some (cond test (Some txn) (first_submit history id)) ≡ true → (is_submitted history id ≡ true → CanRun (txn_of history id))
+        → CanRun (unwrap_or (cond test (Some txn) (first_submit history id)) (Whole []))
+    by_test true there rest = well.0
+    by_test false there rest = rest there
+txn_can_run (Read other values ∷ history) id well submitted = txn_can_run history id well.1 submitted
+txn_can_run (Answered other answer ∷ history) id well submitted = txn_can_run history id well.1 submitted
+txn_can_run (Told asker other answer ∷ history) id well submitted = txn_can_run history id well.1 submitted
+
+pub plan_can_run : (history : List HistoryEvent) (id : TxnId) (plan : PlanValue) → Each SubmitsWell history → txn_of history id ≡ General plan → CanRunPlan plan
+plan_can_run history id plan well is = subst CanRun is (txn_can_run history id well (general_submitted history id plan is))
+
+-- what a Read rests on, its Commit rests on too
+commit_by : (history : List HistoryEvent) (order : List Packet) → Each (Counted history order) history → (id : TxnId) (body : Body) → HasCommitOrigin history id body
+    → HasCommitEvidence (txn_of history) order id body
+commit_by history order counted id (Independent ops) origin = tt
+commit_by history order counted id (Prelim locks) origin = tt
+commit_by history order counted id (Commit keys writes) origin =
+    let read = Each-in (Counted history order) history (Read id origin.values) counted origin.read in
+    let same = same_plan (txn_of history id) origin.plan read.plan origin.is read.is in
+    record {
+      values = origin.values;
+      read = read;
+      guards = ap (λ (plan : PlanValue). guards_hold plan.guards (value_in plan.keys origin.values)) (sym same) ∙ origin.guards;
+      writes_are = origin.writes_are ∙ ap (λ (plan : PlanValue). writes_from plan.settings (value_in plan.keys origin.values)) same;
+    }
+commit_by history order counted id (Abort keys) origin = tt
+
+-- THE ORIGINS of the packets
+pub origins_of : (history : List HistoryEvent) (order : List Packet) → Evidence history order → Origins (txn_of history) order
+origins_of history order evidence = record {
+  can_run = Each-weaker (λ packet. IsTrue (is_submitted history packet.id)) (λ packet. CanRun (txn_of history packet.id))
+      (λ packet submitted. txn_can_run history packet.id evidence.submits submitted) order evidence.submitted;
+  shards = evidence.shards;
+  bodies = evidence.bodies;
+  commits = Each-weaker (λ packet. HasCommitOrigin history packet.id packet.body) (λ packet. HasCommitEvidence (txn_of history) order packet.id packet.body)
+      (λ packet origin. commit_by history order evidence.counted packet.id packet.body origin) order evidence.commits;
+}
