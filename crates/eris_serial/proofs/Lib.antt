@@ -6,3 +6,4 @@ pub mod ShardByShard
 pub mod OneMap
 pub mod OrderOrigins
 pub mod WellFormedOrder
+pub mod OrderLines
