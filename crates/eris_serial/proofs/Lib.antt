@@ -7,3 +7,4 @@ pub mod OneMap
 pub mod OrderOrigins
 pub mod WellFormedOrder
 pub mod OrderLines
+pub mod Rules
