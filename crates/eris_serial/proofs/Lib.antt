@@ -8,3 +8,8 @@ pub mod OrderOrigins
 pub mod WellFormedOrder
 pub mod OrderLines
 pub mod Rules
+pub mod CutOrigins
+pub mod JoinedShares
+pub mod SaidByLogs
+pub mod Sizes
+pub mod StampedLater

@@ -2,3 +2,4 @@ pub mod Transactions
 pub mod Shares
 pub mod Evidence
 pub mod Cuts
+pub mod Joining

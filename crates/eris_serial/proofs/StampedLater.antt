@@ -1,0 +1,141 @@
+-- From the order of stamping to the rule of real time: where what was answered before a submit stands in front of what
+-- is submitted, the order's lines stand so too. Two forms: a beginning of the order that has the one and not the
+-- other, and a sorted order.
+use Rattle.std.proofs.Common.{◌≡◌, Bool, true, false, cond, ◌≤◌, is_none, Option, Some, None, List, [], ◌∷◌, ◌++◌, length, map, refl, ap, sym, ◌∙◌, subst, append_assoc, arith, ◌⊎◌, inl, inr}
+use Rattle.std.proofs.lemmas.Bool.{both_ways}
+use Rattle.std.specs.Prelude.{IsTrue, IsFalse}
+use Rattle.eris_base.specs.declared.ids.Phase.{Phase}
+use Rattle.eris_base.specs.declared.ids.ShardId.{ShardId}
+use Rattle.eris_base.specs.declared.ids.TxnId.{TxnId}
+use Rattle.eris_base.specs.Each.{Each, EachAfter}
+use Rattle.eris_txn.specs.declared.answer.Answer.{Answer}
+use Rattle.eris_txn.specs.declared.body.Body.TheVariants.{Prelim}
+use Rattle.eris_txn.specs.declared.history.HistoryEvent.{HistoryEvent}
+use Rattle.eris_txn.specs.declared.history.HistoryEvent.TheVariants.{Submit, Read, Answer as Answered, Told}
+use Rattle.eris_txn.specs.declared.key.Key.{Key}
+use Rattle.eris_txn.specs.declared.op.Op.{Op}
+use Rattle.eris_txn.specs.declared.packet.Packet.{Packet}
+use Rattle.eris_txn.specs.declared.plan.PlanFault.{PlanFault}
+use Rattle.eris_txn.specs.declared.plan.Setting.{Setting}
+use Rattle.eris_txn.specs.declared.txn.Txn.{Txn}
+use Rattle.eris_txn.specs.declared.txn.Txn.TheVariants.{Whole, General}
+use Rattle.eris_txn.specs.Bodies.{keys_of}
+use Rattle.eris_txn.specs.PlanFacts.{IsPlan}
+use Rattle.eris_txn.specs.PlanFaults.{plan_fault}
+use Rattle.eris_txn.specs.PlanValues.{PlanValue}
+use Rattle.eris_txn.specs.Plans.{locks_in, locks_of}
+use Rattle.eris_txn.specs.Sizes.{event_has_size, is_few, txn_has_size}
+use Rattle.eris_txn.proofs.PlanLaws.{IsPlan-no_fault}
+use Rattle.eris_locks.specs.declared.done.Done.{Done}
+use Rattle.eris_locks.specs.declared.shard_packet.ShardPacket.{ShardPacket}
+use Rattle.eris_locks.specs.Law.{Said}
+use Rattle.eris_locks.specs.LockTable.{run_dones, run_state}
+use Rattle.eris_locks.specs.Shards.{cut, names_shard, on_shard}
+use Rattle.eris_locks.specs.States.{empty, is_conclusory}
+use Rattle.eris_lock_law.proofs.Runs.{dones_of_prefix}
+use Rattle.eris_audit.proofs.Places.{Each-from, EachAfter-from}
+use Rattle.eris_order.specs.Orders.{packets_on}
+use Rattle.eris_serial.specs.Evidence.{AnsweredFirst, HasOwn, IsIn, SaidOn, StandsBehind, SubmittedLater, SubmitsWell}
+use Rattle.eris_serial.specs.Transactions.{CanRun, keys_in}
+
+-- AN OWN PACKET
+pub own_there : (packets : List Packet) (packet : Packet) → IsIn packet packets → IsFalse (is_conclusory packet.body) → HasOwn packet.id packets
+own_there [] packet there own = absurd there
+own_there (other ∷ packets) packet (inl same) own = inl (ap (λ (p : Packet). p.id) same, ap (λ (p : Packet). is_conclusory p.body) same ∙ own)
+own_there (other ∷ packets) packet (inr there) own = inr (own_there packets packet there own)
+
+pub record OwnPacket (id : TxnId) (packets : List Packet) : Type 0 where
+  pub packet : Packet
+  pub there : IsIn packet packets
+  pub is : packet.id ≡ id
+  pub own : IsFalse (is_conclusory packet.body)
+
+pub own_packet : (id : TxnId) (packets : List Packet) → HasOwn id packets → OwnPacket id packets
+own_packet id [] has = absurd has
+own_packet id (packet ∷ packets) (inl here) = record { packet = packet; there = inl refl; is = here.0; own = here.1 }
+own_packet id (packet ∷ packets) (inr later) =
+    let found = own_packet id packets later in
+    record { packet = found.packet; there = inr found.there; is = found.is; own = found.own }
+
+-- FROM THE ORDER OF STAMPING: where a beginning of the order has an own packet of the first id and none of the second,
+-- the second stands behind the first
+pub behind_old : (first second : TxnId) (old new : List Packet) → HasOwn first old → Each (λ packet. packet.id ≡ second → IsFalse (is_conclusory packet.body) → ⊥) old → StandsBehind (old ++ new) first second
+behind_old first second [] new has none front after packet split is own = absurd has
+behind_old first second (other ∷ old) new has none [] after packet split is own =
+    let same : other ≡ packet = cc in
+    absurd (none.0 (ap (λ (p : Packet). p.id) same ∙ is) (ap (λ (p : Packet). is_conclusory p.body) same ∙ own))
+behind_old first second (other ∷ old) new has none (before ∷ front) after packet split is own =
+    let same : other ≡ before = cc in
+    let rest : old ++ new ≡ front ++ packet ∷ after = cc in
+    by_place same has (λ later. behind_old first second old new later none.1 front after packet rest is own)
+  where
+    by_place : other ≡ before → HasOwn first (other ∷ old) → (HasOwn first old → HasOwn first front) → HasOwn first (before ∷ front)
+    by_place same (inl here) go = inl (subst (λ (p : Packet). (p.id ≡ first) × (is_conclusory p.body ≡ false)) same here)
+    by_place same (inr later) go = inr (go later)
+
+-- or where the order is sorted, and an own packet of the first id is below each one of the second
+abbrev pub Sorted : {X : Type 0} → (X → X → Type 0) → List X → Type 0
+Sorted Below [] = Unit {0}
+Sorted Below (item ∷ items) = ((other : _) → IsIn other items → Below item other) × Sorted Below items
+
+module _ {X : Type 0} (Below : X → X → Type 0) (apart : (some other : X) → Below some other → Below other some → ⊥) where
+  in_part : (front after : List X) (item other : X) → IsIn other (front ++ item ∷ after) → IsIn other front ⊎ IsIn other (item ∷ after)
+  in_part [] after item other there = inr there
+  in_part (first ∷ front) after item other (inl is) = inl (inl is)
+  in_part (first ∷ front) after item other (inr there) = by_part (in_part front after item other there)
+    where
+      by_part : (IsIn other front ⊎ IsIn other (item ∷ after)) → IsIn other (first ∷ front) ⊎ IsIn other (item ∷ after)
+      by_part (inl before) = inl (inr before)
+      by_part (inr behind) = inr behind
+
+  sorted_rest : (front rest : List X) → Sorted Below (front ++ rest) → Sorted Below rest
+  sorted_rest [] rest sorted = sorted
+  sorted_rest (first ∷ front) rest sorted = sorted_rest front rest sorted.1
+
+  -- in a sorted list what is below an item stands before it
+  pub below_in_front : (front after : List X) (item other : X) → Sorted Below (front ++ item ∷ after) → IsIn other (front ++ item ∷ after) → Below other item → IsIn other front
+  below_in_front front after item other sorted there below = by_part (in_part front after item other there)
+    where
+      by_part : (IsIn other front ⊎ IsIn other (item ∷ after)) → IsIn other front
+      by_part (inl before) = before
+      by_part (inr (inl is)) =
+          let self = subst (λ x. Below x item) (sym is) below in
+          absurd (apart item item self self)
+      by_part (inr (inr behind)) = absurd (apart other item below ((sorted_rest front (item ∷ after) sorted).0 other behind))
+
+pub behind_below : (Below : Packet → Packet → Type 0) → ((some other : Packet) → Below some other → Below other some → ⊥) → (order : List Packet) → Sorted Below order
+    → (first second : TxnId) (packet : Packet) → IsIn packet order → packet.id ≡ first → IsFalse (is_conclusory packet.body)
+    → ((other : Packet) → IsIn other order → other.id ≡ second → IsFalse (is_conclusory other.body) → Below packet other) → StandsBehind order first second
+behind_below Below apart order sorted first second packet there is own below front after other split same other_own =
+    subst (λ i. HasOwn i front) is
+    (own_there front packet
+    (below_in_front Below apart front after other packet (subst (Sorted Below) split sorted) (subst (IsIn packet) split there)
+    (below other (subst (IsIn other) (sym split) (stands_there front after other)) same other_own)) own)
+  where
+    stands_there : (front after : List Packet) (item : Packet) → IsIn item (front ++ item ∷ after)
+    stands_there [] after item = inl refl
+    stands_there (p ∷ front) after item = inr (stands_there front after item)
+
+-- RULE 4's premise, from each answer and each submit behind it
+abbrev pub EachAnswerFirst : List HistoryEvent → List Packet → Type 0
+EachAnswerFirst history order =
+    (before between after : List HistoryEvent) (answered submitted : TxnId) (answer : Answer) (txn : Txn)
+    → history ≡ before ++ Answered answered answer ∷ (between ++ Submit submitted txn ∷ after) → StandsBehind order answered submitted
+
+pub later_from : (history : List HistoryEvent) (order : List Packet) → EachAnswerFirst history order → EachAfter (SubmittedLater order) [] history
+later_from history order first = EachAfter-from (SubmittedLater order) [] history at_event
+  where
+    at_answer : (front back : List HistoryEvent) (submitted : TxnId) (txn : Txn) → history ≡ front ++ Submit submitted txn ∷ back
+        → (before between : List HistoryEvent) (event : HistoryEvent) → front ≡ before ++ event ∷ between → AnsweredFirst order submitted event
+    at_answer front back submitted txn split before between (Answered answered answer) inner =
+        first before between back answered submitted answer txn
+        (split ∙ (ap (λ l. l ++ Submit submitted txn ∷ back) inner ∙ append_assoc before (Answered answered answer ∷ between) (Submit submitted txn ∷ back)))
+    at_answer front back submitted txn split before between (Submit id other) inner = tt
+    at_answer front back submitted txn split before between (Read id values) inner = tt
+    at_answer front back submitted txn split before between (Told asker id answer) inner = tt
+
+    at_event : (front back : List HistoryEvent) (event : HistoryEvent) → history ≡ front ++ event ∷ back → SubmittedLater order front event
+    at_event front back (Submit id txn) split = Each-from (AnsweredFirst order id) front (at_answer front back id txn split)
+    at_event front back (Read id values) split = tt
+    at_event front back (Answered id answer) split = tt
+    at_event front back (Told asker id answer) split = tt
