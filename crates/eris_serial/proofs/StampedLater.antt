@@ -36,34 +36,29 @@ use Rattle.eris_lock_law.proofs.Runs.{dones_of_prefix}
 use Rattle.eris_audit.proofs.Places.{Each-from, EachAfter-from}
 use Rattle.eris_order.specs.Orders.{packets_on}
 use Rattle.eris_serial.specs.Evidence.{AnsweredFirst, HasOwn, IsIn, SaidOn, StandsBehind, SubmittedLater, SubmitsWell}
+use Rattle.eris_serial.specs.Times.{EachAnswerFirst, IsOneWay, IsOrderedBy, IsOwn}
 use Rattle.eris_serial.specs.Transactions.{CanRun, keys_in}
 
 -- AN OWN PACKET
-pub own_there : (packets : List Packet) (packet : Packet) → IsIn packet packets → IsFalse (is_conclusory packet.body) → HasOwn packet.id packets
-own_there [] packet there own = absurd there
-own_there (other ∷ packets) packet (inl same) own = inl (ap (λ (p : Packet). p.id) same, ap (λ (p : Packet). is_conclusory p.body) same ∙ own)
-own_there (other ∷ packets) packet (inr there) own = inr (own_there packets packet there own)
+pub own_there : (id : TxnId) (packets : List Packet) (packet : Packet) → IsIn packet packets → IsOwn id packet → HasOwn id packets
+own_there id [] packet there own = absurd there
+own_there id (other ∷ packets) packet (inl same) own = inl (ap (λ (p : Packet). p.id) same ∙ own.of_id, ap (λ (p : Packet). is_conclusory p.body) same ∙ own.own)
+own_there id (other ∷ packets) packet (inr there) own = inr (own_there id packets packet there own)
 
-pub record OwnPacket (id : TxnId) (packets : List Packet) : Type 0 where
-  pub packet : Packet
-  pub there : IsIn packet packets
-  pub is : packet.id ≡ id
-  pub own : IsFalse (is_conclusory packet.body)
-
-pub own_packet : (id : TxnId) (packets : List Packet) → HasOwn id packets → OwnPacket id packets
+pub own_packet : (id : TxnId) (packets : List Packet) → HasOwn id packets → (packet : Packet) × IsIn packet packets × IsOwn id packet
 own_packet id [] has = absurd has
-own_packet id (packet ∷ packets) (inl here) = record { packet = packet; there = inl refl; is = here.0; own = here.1 }
+own_packet id (packet ∷ packets) (inl here) = (packet, inl refl, record { of_id = here.0; own = here.1 })
 own_packet id (packet ∷ packets) (inr later) =
     let found = own_packet id packets later in
-    record { packet = found.packet; there = inr found.there; is = found.is; own = found.own }
+    (found.0, inr found.1, found.2)
 
 -- FROM THE ORDER OF STAMPING: where a beginning of the order has an own packet of the first id and none of the second,
 -- the second stands behind the first
-pub behind_old : (first second : TxnId) (old new : List Packet) → HasOwn first old → Each (λ packet. packet.id ≡ second → IsFalse (is_conclusory packet.body) → ⊥) old → StandsBehind (old ++ new) first second
+pub behind_old : (first second : TxnId) (old new : List Packet) → HasOwn first old → Each (λ packet. IsOwn second packet → ⊥) old → StandsBehind (old ++ new) first second
 behind_old first second [] new has none front after packet split is own = absurd has
 behind_old first second (other ∷ old) new has none [] after packet split is own =
     let same : other ≡ packet = cc in
-    absurd (none.0 (ap (λ (p : Packet). p.id) same ∙ is) (ap (λ (p : Packet). is_conclusory p.body) same ∙ own))
+    absurd (none.0 (record { of_id = ap (λ (p : Packet). p.id) same ∙ is; own = ap (λ (p : Packet). is_conclusory p.body) same ∙ own }))
 behind_old first second (other ∷ old) new has none (before ∷ front) after packet split is own =
     let same : other ≡ before = cc in
     let rest : old ++ new ≡ front ++ packet ∷ after = cc in
@@ -74,11 +69,7 @@ behind_old first second (other ∷ old) new has none (before ∷ front) after pa
     by_place same (inr later) go = inr (go later)
 
 -- or where the order is sorted, and an own packet of the first id is below each one of the second
-abbrev pub Sorted : {X : Type 0} → (X → X → Type 0) → List X → Type 0
-Sorted Below [] = Unit {0}
-Sorted Below (item ∷ items) = ((other : _) → IsIn other items → Below item other) × Sorted Below items
-
-module _ {X : Type 0} (Below : X → X → Type 0) (apart : (some other : X) → Below some other → Below other some → ⊥) where
+module _ {X : Type 0} (below_test : X → X → Bool) (apart : IsOneWay below_test) where
   in_part : (front after : List X) (item other : X) → IsIn other (front ++ item ∷ after) → IsIn other front ⊎ IsIn other (item ∷ after)
   in_part [] after item other there = inr there
   in_part (first ∷ front) after item other (inl is) = inl (inl is)
@@ -88,40 +79,33 @@ module _ {X : Type 0} (Below : X → X → Type 0) (apart : (some other : X) →
       by_part (inl before) = inl (inr before)
       by_part (inr behind) = inr behind
 
-  sorted_rest : (front rest : List X) → Sorted Below (front ++ rest) → Sorted Below rest
+  sorted_rest : (front rest : List X) → IsOrderedBy below_test (front ++ rest) → IsOrderedBy below_test rest
   sorted_rest [] rest sorted = sorted
   sorted_rest (first ∷ front) rest sorted = sorted_rest front rest sorted.1
 
   -- in a sorted list what is below an item stands before it
-  pub below_in_front : (front after : List X) (item other : X) → Sorted Below (front ++ item ∷ after) → IsIn other (front ++ item ∷ after) → Below other item → IsIn other front
+  pub below_in_front : (front after : List X) (item other : X) → IsOrderedBy below_test (front ++ item ∷ after) → IsIn other (front ++ item ∷ after) → IsTrue (below_test other item) → IsIn other front
   below_in_front front after item other sorted there below = by_part (in_part front after item other there)
     where
       by_part : (IsIn other front ⊎ IsIn other (item ∷ after)) → IsIn other front
       by_part (inl before) = before
       by_part (inr (inl is)) =
-          let self = subst (λ x. Below x item) (sym is) below in
+          let self = subst (λ x. IsTrue (below_test x item)) (sym is) below in
           absurd (apart item item self self)
       by_part (inr (inr behind)) = absurd (apart other item below ((sorted_rest front (item ∷ after) sorted).0 other behind))
 
-pub behind_below : (Below : Packet → Packet → Type 0) → ((some other : Packet) → Below some other → Below other some → ⊥) → (order : List Packet) → Sorted Below order
-    → (first second : TxnId) (packet : Packet) → IsIn packet order → packet.id ≡ first → IsFalse (is_conclusory packet.body)
-    → ((other : Packet) → IsIn other order → other.id ≡ second → IsFalse (is_conclusory other.body) → Below packet other) → StandsBehind order first second
-behind_below Below apart order sorted first second packet there is own below front after other split same other_own =
-    subst (λ i. HasOwn i front) is
-    (own_there front packet
-    (below_in_front Below apart front after other packet (subst (Sorted Below) split sorted) (subst (IsIn packet) split there)
-    (below other (subst (IsIn other) (sym split) (stands_there front after other)) same other_own)) own)
+pub behind_below : (below_test : Packet → Packet → Bool) → IsOneWay below_test → (order : List Packet) → IsOrderedBy below_test order → (first second : TxnId) (packet : Packet) → IsIn packet order → IsOwn first packet
+    → ((other : Packet) → IsIn other order → IsOwn second other → IsTrue (below_test packet other)) → StandsBehind order first second
+behind_below below_test apart order ordered first second packet there own below front after other split same other_own =
+    own_there first front packet
+    (below_in_front below_test apart front after other packet (subst (IsOrderedBy below_test) split ordered) (subst (IsIn packet) split there)
+    (below other (subst (IsIn other) (sym split) (stands_there front after other)) (record { of_id = same; own = other_own }))) own
   where
     stands_there : (front after : List Packet) (item : Packet) → IsIn item (front ++ item ∷ after)
     stands_there [] after item = inl refl
     stands_there (p ∷ front) after item = inr (stands_there front after item)
 
--- RULE 4's premise, from each answer and each submit behind it
-abbrev pub EachAnswerFirst : List HistoryEvent → List Packet → Type 0
-EachAnswerFirst history order =
-    (before between after : List HistoryEvent) (answered submitted : TxnId) (answer : Answer) (txn : Txn)
-    → history ≡ before ++ Answered answered answer ∷ (between ++ Submit submitted txn ∷ after) → StandsBehind order answered submitted
-
+-- RULE 4's PREMISE, from each answer and each submit behind it
 pub later_from : (history : List HistoryEvent) (order : List Packet) → EachAnswerFirst history order → EachAfter (SubmittedLater order) [] history
 later_from history order first = EachAfter-from (SubmittedLater order) [] history at_event
   where

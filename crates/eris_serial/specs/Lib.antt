@@ -3,3 +3,4 @@ pub mod Shares
 pub mod Evidence
 pub mod Cuts
 pub mod Joining
+pub mod Times

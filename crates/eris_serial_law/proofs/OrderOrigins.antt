@@ -17,44 +17,11 @@ use Rattle.eris_txn.specs.PlanValues.{PlanValue}
 use Rattle.eris_txn.specs.Plans.{guards_hold, value_in, writes_from}
 use Rattle.eris_audit.specs.Histories.{first_submit, is_submitted, txn_of}
 use Rattle.eris_serial.specs.Evidence.{Counted, Evidence, HasCommitEvidence, HasCommitOrigin, IsIn, Origins, SubmitsWell}
+use Rattle.eris_serial.proofs.Runnable.{Each-in, txn_can_run}
 use Rattle.eris_serial.specs.Transactions.{CanRun, CanRunPlan}
-
--- a property of each item, of one that stands there
-pub Each-in : {X : Type 0} (P : X → Type 0) (items : List X) (item : X) → Each P items → IsIn item items → P item
-Each-in P [] item each there = absurd there
-Each-in P (other ∷ items) item each (inl is) = subst P is each.0
-Each-in P (other ∷ items) item each (inr there) = Each-in P items item each.1 there
-
-pub Each-of : {X : Type 0} (P : X → Type 0) (items : List X) → ((item : X) → IsIn item items → P item) → Each P items
-Each-of P [] all = tt
-Each-of P (item ∷ items) all = (all item (inl refl), Each-of P items (λ other there. all other (inr there)))
 
 pub same_plan : (txn : Txn) (some other : PlanValue) → txn ≡ General some → txn ≡ General other → some ≡ other
 same_plan txn some other is is' = cc
-
--- a general transaction was submitted
-general_submitted : (history : List HistoryEvent) (id : TxnId) (plan : PlanValue) → txn_of history id ≡ General plan → is_submitted history id ≡ true
-general_submitted history id plan = by_first (first_submit history id)
-  where
-    by_first : (found : Option Txn) → unwrap_or found (Whole []) ≡ General plan → is_some found ≡ true
-    by_first None is = cc
-    by_first (Some txn) is = refl
-
--- a submitted transaction can be run
-pub txn_can_run : (history : List HistoryEvent) (id : TxnId) → Each SubmitsWell history → is_submitted history id ≡ true → CanRun (txn_of history id)
-txn_can_run [] id well submitted = absurd (both_ways _ refl submitted)
-txn_can_run (Submit other txn ∷ history) id well submitted = by_test (same_id other id) submitted (txn_can_run history id well.1)
-  where
-    by_test : (test : Bool) → is_some (cond test (Some txn) (first_submit history id)) ≡ true → (is_submitted history id ≡ true → CanRun (txn_of history id))
-        → CanRun (unwrap_or (cond test (Some txn) (first_submit history id)) (Whole []))
-    by_test true there rest = well.0
-    by_test false there rest = rest there
-txn_can_run (Read other values ∷ history) id well submitted = txn_can_run history id well.1 submitted
-txn_can_run (Answered other answer ∷ history) id well submitted = txn_can_run history id well.1 submitted
-txn_can_run (Told asker other answer ∷ history) id well submitted = txn_can_run history id well.1 submitted
-
-pub plan_can_run : (history : List HistoryEvent) (id : TxnId) (plan : PlanValue) → Each SubmitsWell history → txn_of history id ≡ General plan → CanRunPlan plan
-plan_can_run history id plan well is = subst CanRun is (txn_can_run history id well (general_submitted history id plan is))
 
 -- what a Read rests on, its Commit rests on too
 commit_by : (history : List HistoryEvent) (order : List Packet) → Each (Counted history order) history → (id : TxnId) (body : Body) → HasCommitOrigin history id body

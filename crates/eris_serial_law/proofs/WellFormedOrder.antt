@@ -42,10 +42,10 @@ use Rattle.eris_lock_law.proofs.Lost.{said_finds}
 use Rattle.eris_serial.specs.Evidence.{BodyOrigin, CommitEvidence, HasCommitEvidence, Origins, SaidOn}
 use Rattle.eris_serial.specs.Shares.{share}
 use Rattle.eris_serial.specs.Transactions.{takes_part, CanRun}
-use Rattle.eris_serial.proofs.AtShard.{lock_on, write_on}
-use Rattle.eris_serial.proofs.OrderOrigins.{same_plan}
-use Rattle.eris_serial.proofs.ShardByShard.{settings_locked}
-use Rattle.eris_serial.proofs.Sound.{BodySound, CommitSound, Sound}
+use Rattle.eris_serial_law.proofs.AtShard.{lock_on, write_on}
+use Rattle.eris_serial_law.proofs.OrderOrigins.{same_plan}
+use Rattle.eris_serial_law.proofs.ShardByShard.{settings_locked}
+use Rattle.eris_serial_law.proofs.Sound.{BodySound, CommitSound, Sound}
 
 -- the packets on a shard of two lists, one behind the other
 pub on_shard-append : (shard : ShardId) (front back : List Packet) → on_shard shard (front ++ back) ≡ on_shard shard front ++ on_shard shard back

@@ -30,27 +30,10 @@ use Rattle.eris_audit.specs.Lines.{Line, has_line, outcome_in, stands_before}
 use Rattle.eris_audit.specs.SerialRun.{left_by_txn, result_in, result_of}
 use Rattle.eris_order.specs.Orders.{lines_from, outcome_at, outcome_from, outcome_of}
 use Rattle.eris_serial.specs.Evidence.{BodyOrigin, HasOwn, StandsBehind}
-use Rattle.eris_serial.proofs.LineSteps.{by_packet, first_line}
-use Rattle.eris_serial.proofs.Sound.{outcome-other}
+use Rattle.eris_serial_law.proofs.LineSteps.{by_packet, first_line}
+use Rattle.eris_serial_law.proofs.Sound.{outcome-other}
 
--- A PACKET ON A SHARD is one of the order: an own one
-own_phase : (shard : ShardId) (body : Body) (phase : Phase) → phase_of (cut_body shard body) ≡ phase → (phase ≡ Phase.Conclude → ⊥) → is_conclusory body ≡ false
-own_phase shard (Independent ops) phase is not = refl
-own_phase shard (Prelim locks) phase is not = refl
-own_phase shard (Commit keys writes) phase is not = absurd (not (sym is))
-own_phase shard (Abort keys) phase is not = absurd (not (sym is))
-
-pub own_from_shard : (shard : ShardId) (id : TxnId) (phase : Phase) (packets : List Packet) → (phase ≡ Phase.Conclude → ⊥) → HasPacket id phase (on_shard shard packets) → HasOwn id packets
-own_from_shard shard id phase [] not = λ has. has
-own_from_shard shard id phase (packet ∷ packets) not = by_test (names_shard shard packet) (own_from_shard shard id phase packets not)
-  where
-    by_test : (named : Bool) → (HasPacket id phase (on_shard shard packets) → HasOwn id packets)
-        → HasPacket id phase (elim named [ true ↦ cut shard packet ∷ on_shard shard packets | false ↦ on_shard shard packets ]) → HasOwn id (packet ∷ packets)
-    by_test true rest (inl here) = inl (here.0, own_phase shard packet.body phase here.1 not)
-    by_test true rest (inr there) = inr (rest there)
-    by_test false rest there = inr (rest there)
-
--- or a conclusory one
+-- A CONCLUSORY PACKET ON A SHARD is one of the order
 concludes_some : (shard : ShardId) (body : Body) (later : Option Answer) → phase_of (cut_body shard body) ≡ Phase.Conclude → outcome_by body true later ≡ None → ⊥
 concludes_some shard (Independent ops) later is none = cc
 concludes_some shard (Prelim locks) later is none = cc

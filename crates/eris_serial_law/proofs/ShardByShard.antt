@@ -41,10 +41,10 @@ use Rattle.eris_audit.specs.SerialRun.{guards_of, left_by_txn, result_in, result
 use Rattle.eris_order.specs.Orders.{lines_from, outcome_at, outcome_from, outcome_of}
 use Rattle.eris_serial.specs.Shares.{share, OneForEach}
 use Rattle.eris_serial.specs.Transactions.{takes_part, CanRun, CanRunPlan}
-use Rattle.eris_serial.proofs.AtShard.{AgreeOn, after_all-share, answers-share, lock_on, op_on, ops-off, reads-share, write_on, writes-off, written-share}
-use Rattle.eris_serial.proofs.LineSteps.{by_packet, first_line}
-use Rattle.eris_serial.proofs.Parts.{shares_decide, values-one_each}
-use Rattle.eris_serial.proofs.Sound.{BodySound, CommitSound, Sound, committed, conclusory-cut, is_committed, other_id, run-acts, run-conclusory, run-repeated, uncommitted, values-acts, values-conclusory, values-repeated, writes-on_shard, writes_to_come}
+use Rattle.eris_serial_law.proofs.AtShard.{AgreeOn, after_all-share, answers-share, lock_on, op_on, ops-off, reads-share, write_on, writes-off, written-share}
+use Rattle.eris_serial_law.proofs.LineSteps.{by_packet, first_line}
+use Rattle.eris_serial_law.proofs.Parts.{shares_decide, values-one_each}
+use Rattle.eris_serial_law.proofs.Sound.{BodySound, CommitSound, Sound, committed, conclusory-cut, is_committed, other_id, run-acts, run-conclusory, run-repeated, uncommitted, values-acts, values-conclusory, values-repeated, writes-on_shard, writes_to_come}
 
 -- what a shard answers of a transaction, where the serial map is this one
 abbrev pub shard_answer : ShardId → Txn → Values → Answer

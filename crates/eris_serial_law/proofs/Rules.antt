@@ -41,47 +41,16 @@ use Rattle.eris_order.specs.Orders.{lines, outcome_at, outcome_from, outcome_of}
 use Rattle.eris_serial.specs.Evidence.{AnswerEvidence, AnsweredFirst, BodyOrigin, ByOutcome, ByRefusal, ByWhole, Counted, Evidence, HasCommitEvidence, HasOwn, Origins, OutcomeEvidence, OwnOutcomeEvidence, ReadEvidence, RefusalEvidence, SubmitsWell, SubmittedLater, WholeEvidence}
 use Rattle.eris_serial.specs.Shares.{share}
 use Rattle.eris_serial.specs.Transactions.{takes_part}
-use Rattle.eris_serial.proofs.AtShard.{op_on}
-use Rattle.eris_serial.proofs.OneMap.{IsAnswered, RunsAlong, guards-at, runs_along}
-use Rattle.eris_serial.proofs.OrderLines.{CommitsBehindOwn, aborted_line, committed_line, each_line, has_its_line, line_has_result, line_of_outcome, lines_before, none_concluded, outcome_cases, own_from_shard}
-use Rattle.eris_serial.proofs.OrderOrigins.{Each-in, origins_of, plan_can_run}
-use Rattle.eris_serial.proofs.Parts.{answers-one_each, shares_decide, values-one_each}
-use Rattle.eris_serial.proofs.ShardByShard.{AllMeet, shard_answer}
-use Rattle.eris_serial.proofs.Sound.{outcome-on_shard}
-use Rattle.eris_serial.proofs.WellFormedOrder.{Known, all_known, all_sound, finds_there, right, right_values, runs_of}
-
--- some shard takes part, where there is a key or an operation
-some_shard : (keys : List Key) → (keys ≡ [] → ⊥) → (shard : ShardId) × (any_on keys shard ≡ true)
-some_shard [] some = absurd (some refl)
-some_shard (key ∷ keys) some = (key.shard, or_left _ _ (eq-eqb key.shard.0 key.shard.0 refl))
-
-some_op_shard : (ops : List Op) → (ops ≡ [] → ⊥) → (shard : ShardId) × (any_on (map key_of ops) shard ≡ true)
-some_op_shard [] some = absurd (some refl)
-some_op_shard (op ∷ ops) some = ((key_of op).shard, or_left _ _ (eq-eqb (key_of op).shard.0 (key_of op).shard.0 refl))
-
-prelim_is_own : Phase.Prelim ≡ Phase.Conclude → ⊥
-prelim_is_own is = cc
-
-whole_is_own : Phase.Whole ≡ Phase.Conclude → ⊥
-whole_is_own is = cc
-
--- WHAT WAS SAID OVER A LIST STANDS IN IT
-pub read_has_own : (history : List HistoryEvent) → Each SubmitsWell history → (id : TxnId) (values : List (Option ℕ)) (packets : List Packet)
-    → ReadEvidence (txn_of history) id values packets → HasOwn id packets
-read_has_own history well id values packets read =
-    let some = some_shard read.plan.keys (plan_can_run history id read.plan well read.is).some_key in
-    own_from_shard some.0 id Phase.Prelim packets prelim_is_own
-    (said_from id Phase.Prelim (Answer.Values (share (is_on some.0) read.plan.keys values)) (on_shard some.0 packets) (read.said some.0 (ap (takes_part some.0) read.is ∙ some.1)))
-
-pub whole_has_own : (txn : TxnId → Txn) (id : TxnId) (answer : Answer) (packets : List Packet) → WholeEvidence txn id answer packets → HasOwn id packets
-whole_has_own txn id answer packets whole =
-    let some = some_op_shard whole.operations whole.some_operation in
-    own_from_shard some.0 id Phase.Whole packets whole_is_own
-    (said_from id Phase.Whole (Ops (share (op_on some.0) whole.operations whole.answers)) (on_shard some.0 packets) (whole.said some.0 (ap (takes_part some.0) whole.is ∙ some.1)))
-
-pub refusal_has_own : (txn : TxnId → Txn) (id : TxnId) (answer : Answer) (packets : List Packet) → RefusalEvidence txn id answer packets → HasOwn id packets
-refusal_has_own txn id answer packets refusal =
-    own_from_shard refusal.shard id Phase.Prelim packets prelim_is_own (said_from id Phase.Prelim Aborted (on_shard refusal.shard packets) refusal.said)
+use Rattle.eris_serial_law.proofs.AtShard.{op_on}
+use Rattle.eris_serial_law.proofs.OneMap.{IsAnswered, RunsAlong, guards-at, runs_along}
+use Rattle.eris_serial_law.proofs.OrderLines.{CommitsBehindOwn, aborted_line, committed_line, each_line, has_its_line, line_has_result, line_of_outcome, lines_before, none_concluded, outcome_cases}
+use Rattle.eris_serial_law.proofs.OrderOrigins.{origins_of}
+use Rattle.eris_serial.proofs.CountedStands.{own_from_shard, prelim_is_own, read_has_own, refusal_has_own, some_shard, whole_has_own}
+use Rattle.eris_serial.proofs.Runnable.{Each-in, plan_can_run}
+use Rattle.eris_serial_law.proofs.Parts.{answers-one_each, shares_decide, values-one_each}
+use Rattle.eris_serial_law.proofs.ShardByShard.{AllMeet, shard_answer}
+use Rattle.eris_serial_law.proofs.Sound.{outcome-on_shard}
+use Rattle.eris_serial_law.proofs.WellFormedOrder.{Known, all_known, all_sound, finds_there, right, right_values, runs_of}
 
 -- the maps at the end of the shards' plain runs
 abbrev pub lasts_of : List Packet → ShardId → Values

@@ -22,8 +22,8 @@ use Rattle.eris_serial.specs.Cuts.{IsClosedCut}
 use Rattle.eris_serial.specs.Evidence.{BodyOrigin, HasCommitEvidence, IsIn, Origins}
 use Rattle.eris_serial.specs.Shares.{share}
 use Rattle.eris_serial.specs.Transactions.{takes_part, CanRun}
-use Rattle.eris_serial.proofs.OrderOrigins.{Each-in, Each-of}
-use Rattle.eris_serial.proofs.WellFormedOrder.{well_formed}
+use Rattle.eris_serial.proofs.Runnable.{Each-in, Each-of}
+use Rattle.eris_serial_law.proofs.WellFormedOrder.{well_formed}
 
 -- a conclusory packet of a list is one on each shard that it names
 conclusory_there : (shard : ShardId) (packet : Packet) (packets : List Packet) → names_shard shard packet ≡ true → phase_of (cut_body shard packet.body) ≡ Phase.Conclude → IsIn packet packets

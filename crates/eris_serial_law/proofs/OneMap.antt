@@ -29,10 +29,10 @@ use Rattle.eris_audit.specs.SerialRun.{guards_of, left_by_txn, result_in, result
 use Rattle.eris_audit.proofs.RunPlaces.{values_after-append}
 use Rattle.eris_order.specs.Orders.{lines_from, outcome_at, outcome_from, outcome_of}
 use Rattle.eris_serial.specs.Transactions.{takes_part, CanRun, CanRunPlan}
-use Rattle.eris_serial.proofs.AtShard.{AgreeOn}
-use Rattle.eris_serial.proofs.LineSteps.{by_packet, first_line}
-use Rattle.eris_serial.proofs.ShardByShard.{AllMeet, GuardsAlong, after-acts, after-conclusory, after-repeated, answered_there, committed_here, shard_answer}
-use Rattle.eris_serial.proofs.Sound.{BodySound, Sound}
+use Rattle.eris_serial_law.proofs.AtShard.{AgreeOn}
+use Rattle.eris_serial_law.proofs.LineSteps.{by_packet, first_line}
+use Rattle.eris_serial_law.proofs.ShardByShard.{AllMeet, GuardsAlong, after-acts, after-conclusory, after-repeated, answered_there, committed_here, shard_answer}
+use Rattle.eris_serial_law.proofs.Sound.{BodySound, Sound}
 
 -- guards that hold along the run hold at each line's point of it
 pub guards-at : (history : List HistoryEvent) (before lines : List Line) → GuardsAlong (txn_of history) (values_after (txn_of history) before no_values) lines

@@ -31,7 +31,7 @@ use Rattle.eris_audit.specs.declared.outcome.Outcome.{Outcome}
 use Rattle.eris_order.specs.Orders.{outcome_at, outcome_from}
 use Rattle.eris_serial.specs.Shares.{share, OneForEach}
 use Rattle.eris_serial.specs.Transactions.{takes_part, CanRun}
-use Rattle.eris_serial.proofs.AtShard.{write_on}
+use Rattle.eris_serial_law.proofs.AtShard.{write_on}
 
 -- a Commit's writes are the plan's, of values that the plain run of each shard that takes part answers
 pub record CommitSound (txn : TxnId → Txn) (runs : ShardId → List Served) (id : TxnId) (writes : List Write) : Type 0 where
