@@ -3,3 +3,4 @@ pub mod CountedStands
 pub mod SaidByLogs
 pub mod JoinedShares
 pub mod StampedLater
+pub mod Transfer
