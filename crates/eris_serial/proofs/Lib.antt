@@ -4,3 +4,4 @@ pub mod SaidByLogs
 pub mod JoinedShares
 pub mod StampedLater
 pub mod Transfer
+pub mod TransferEvidence
