@@ -5,3 +5,4 @@ pub mod JoinedShares
 pub mod StampedLater
 pub mod Transfer
 pub mod TransferEvidence
+pub mod Premises
