@@ -1,50 +1,29 @@
 -- What was counted over a list of packets stands in it: the own packet of an id that was read or answered.
-use Rattle.std.proofs.Common.{◌≡◌, ℕ, Bool, true, false, cond, Option, Some, None, List, [], ◌∷◌, ◌++◌, map, refl, ap, sym, ◌∙◌, subst, map-id, ◌⊎◌, inl, inr, ◌||◌}
-use Rattle.std.proofs.lemmas.Bool.{both_ways, cases_Bool, eq-eqb, or_left, cond-true, cond-false, or_cases, or_from, or_parts, or_right}
-use Rattle.std.specs.Prelude.{IsTrue, IsFalse}
+use Rattle.std.proofs.Common.{◌≡◌, ℕ, Bool, true, false, Option, List, [], ◌∷◌, map, refl, ap, sym, ◌∙◌, inl, inr}
+use Rattle.std.proofs.lemmas.Bool.{eq-eqb, or_left}
 use Rattle.eris_base.specs.declared.ids.Phase.{Phase}
 use Rattle.eris_base.specs.declared.ids.ShardId.{ShardId}
 use Rattle.eris_base.specs.declared.ids.TxnId.{TxnId}
-use Rattle.eris_base.specs.Each.{Each, EachAfter}
-use Rattle.eris_base.proofs.Each.{Each-weaker}
+use Rattle.eris_base.specs.Each.{Each}
 use Rattle.eris_txn.specs.declared.answer.Answer.{Answer}
-use Rattle.eris_txn.specs.declared.answer.Answer.TheVariants.{Ops, Committed, Aborted}
+use Rattle.eris_txn.specs.declared.answer.Answer.TheVariants.{Ops, Aborted}
 use Rattle.eris_txn.specs.declared.body.Body.{Body}
 use Rattle.eris_txn.specs.declared.body.Body.TheVariants.{Independent, Prelim, Commit, Abort}
 use Rattle.eris_txn.specs.declared.history.HistoryEvent.{HistoryEvent}
-use Rattle.eris_txn.specs.declared.history.HistoryEvent.TheVariants.{Submit, Read, Answer as Answered, Told}
 use Rattle.eris_txn.specs.declared.key.Key.{Key}
 use Rattle.eris_txn.specs.declared.op.Op.{Op}
-use Rattle.eris_txn.specs.declared.op.OpAnswer.{OpAnswer}
 use Rattle.eris_txn.specs.declared.packet.Packet.{Packet}
 use Rattle.eris_txn.specs.declared.txn.Txn.{Txn}
-use Rattle.eris_txn.specs.declared.txn.Txn.TheVariants.{Whole, General}
 use Rattle.eris_txn.specs.Bodies.{any_on}
-use Rattle.eris_txn.specs.Keys.{Values, no_values}
-use Rattle.eris_txn.specs.Operations.{answers, key_of}
-use Rattle.eris_txn.specs.PlanValues.{PlanValue}
-use Rattle.eris_locks.specs.Law.{HasPacket, IsPlain, IsRight, StandsIn, plain_end}
-use Rattle.eris_locks.specs.LockTable.{run_state}
-use Rattle.eris_locks.specs.ShardRun.{outcome_in as outcome_on, outcome_by}
+use Rattle.eris_txn.specs.Operations.{key_of}
+use Rattle.eris_locks.specs.Law.{HasPacket}
 use Rattle.eris_locks.specs.Shards.{is_on, names_shard, on_shard, cut, cut_body}
-use Rattle.eris_locks.specs.States.{empty, is_conclusory, phase_of}
-use Rattle.eris_locks.specs.WellFormed.{is_commit}
-use Rattle.eris_lock_law.proofs.Once.{answer_to, never_aborted, stands_once}
-use Rattle.eris_lock_law.proofs.SaidFrom.{ran, said_from}
-use Rattle.eris_audit.specs.declared.outcome.Outcome.{Outcome}
-use Rattle.eris_audit.specs.Histories.{is_submitted, txn_of}
-use Rattle.eris_audit.specs.IsSerial.{AnsweredStandsBefore, EqualsRun, FollowsAnswered, HasItsLine, IsAnswer, IsOrderLine, IsOutcome, IsSerial, IsToldOutcome, is_done, is_whole}
-use Rattle.eris_audit.specs.Lines.{Line, has_line, outcome_in, stands_before}
-use Rattle.eris_audit.specs.SerialRun.{result_in, result_of, values_after, left_by_txn}
-use Rattle.eris_audit.proofs.Places.{Each-at}
-use Rattle.eris_order.specs.Orders.{lines, outcome_at, outcome_from, outcome_of, lines_from}
-use Rattle.eris_serial.specs.Evidence.{AnswerEvidence, AnsweredFirst, BodyOrigin, ByOutcome, ByRefusal, ByWhole, Counted, Evidence, HasCommitEvidence, HasOwn, Origins, OutcomeEvidence, OwnOutcomeEvidence, ReadEvidence, RefusalEvidence, SubmitsWell, SubmittedLater, WholeEvidence, StandsBehind}
+use Rattle.eris_locks.specs.States.{is_conclusory, phase_of}
+use Rattle.eris_lock_law.proofs.SaidFrom.{said_from}
+use Rattle.eris_audit.specs.Histories.{txn_of}
+use Rattle.eris_serial.specs.Evidence.{HasOwn, ReadEvidence, RefusalEvidence, SubmitsWell, WholeEvidence}
 use Rattle.eris_serial.specs.Shares.{share}
 use Rattle.eris_serial.specs.Transactions.{takes_part}
-use Rattle.std.proofs.lemmas.List.Folds.{list_any-append}
-use Rattle.eris_base.specs.TxnIds.{same_id, is_among}
-use Rattle.eris_base.proofs.TxnIdLaws.{same_id-apart, same_id-from, same_id-true}
-use Rattle.eris_locks.specs.declared.shard_packet.ShardPacket.{ShardPacket}
 use Rattle.eris_serial.proofs.Runnable.{plan_can_run}
 
 -- A PACKET ON A SHARD is one of the order: an own one

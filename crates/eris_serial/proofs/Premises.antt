@@ -1,13 +1,12 @@
 -- Why each premise of the evidence stands there: orders and histories where one of them fails, and the history isn't
 -- serial. What the shards say over each order is computed.
-use Rattle.std.specs.Prelude.{◌≡◌, ℕ, true, false, Some, None, List, [], ◌∷◌, refl}
+use Rattle.std.specs.Prelude.{◌≡◌, None, List, [], ◌∷◌, refl}
 use Rattle.eris_base.specs.declared.ids.Phase.{Phase}
 use Rattle.eris_base.specs.TxnIds.{same_id}
 use Rattle.eris_txn.specs.declared.answer.Answer.{Answer}
 use Rattle.eris_txn.specs.declared.body.Body.TheVariants.{Independent, Prelim, Commit, Abort}
 use Rattle.eris_txn.specs.declared.history.HistoryEvent.{HistoryEvent}
 use Rattle.eris_txn.specs.declared.history.HistoryEvent.TheVariants.{Submit, Read, Answer as Answered, Told}
-use Rattle.eris_txn.specs.declared.lock.Lock.{Lock}
 use Rattle.eris_txn.specs.declared.lock.Mode.TheVariants.{Shared}
 use Rattle.eris_txn.specs.declared.op.Op.TheVariants.{Get, Put}
 use Rattle.eris_txn.specs.declared.op.OpAnswer.{OpAnswer}
@@ -20,11 +19,10 @@ use Rattle.eris_locks.specs.Locks.{conflict}
 use Rattle.eris_locks.specs.LockTable.{run_dones}
 use Rattle.eris_locks.specs.Shards.{on_shard}
 use Rattle.eris_locks.specs.States.{empty}
-use Rattle.eris_audit.specs.declared.outcome.Outcome.{Outcome}
 use Rattle.eris_audit.specs.IsSerial.{IsSerial}
 use Rattle.eris_order.specs.Orders.{lines}
 use Rattle.std.proofs.Common.{inl, inr}
-use Rattle.eris_serial.proofs.Transfer.{a, asked, b, client, exclusive, gives, line, on_both, on_first, on_second, own, shard, transfer, txn}
+use Rattle.eris_serial.proofs.Transfer.{a, asked, b, client, exclusive, gives, on_both, on_first, on_second, own, shard, transfer, txn}
 
 -- AN OUTCOME IS OF A GENERAL TRANSACTION. Another's abort of a whole transaction's id: the other is told Aborted, and
 -- the id's line says done.

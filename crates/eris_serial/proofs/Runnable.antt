@@ -1,45 +1,28 @@
 -- A submitted transaction can be run, where each submit's can, as it can where it has its size; and a preliminary
 -- speaks of its plan's keys.
-use Rattle.std.proofs.Common.{◌≡◌, ℕ, Bool, true, false, cond, Option, Some, None, is_some, unwrap_or, List, [], ◌∷◌, refl, ap, sym, ◌∙◌, subst, ◌⊎◌, inl, inr, ◌≤◌, is_none, ◌++◌, length, map, append_assoc, arith}
+use Rattle.std.proofs.Common.{◌≡◌, Bool, true, false, cond, Option, Some, None, is_some, unwrap_or, List, [], ◌∷◌, refl, ap, subst, inl, inr, ◌≤◌, is_none, length, map, arith}
 use Rattle.std.proofs.lemmas.Bool.{both_ways}
-use Rattle.std.specs.Prelude.{IsTrue, IsFalse}
+use Rattle.std.specs.Prelude.{IsTrue}
 use Rattle.eris_base.specs.declared.ids.TxnId.{TxnId}
-use Rattle.eris_base.specs.Each.{Each, EachAfter}
+use Rattle.eris_base.specs.Each.{Each}
 use Rattle.eris_base.specs.TxnIds.{same_id}
-use Rattle.eris_base.proofs.Each.{Each-weaker}
-use Rattle.eris_txn.specs.declared.body.Body.{Body}
-use Rattle.eris_txn.specs.declared.body.Body.TheVariants.{Independent, Prelim, Commit, Abort}
+use Rattle.eris_txn.specs.declared.body.Body.TheVariants.{Prelim}
 use Rattle.eris_txn.specs.declared.history.HistoryEvent.{HistoryEvent}
 use Rattle.eris_txn.specs.declared.history.HistoryEvent.TheVariants.{Submit, Read, Answer as Answered, Told}
-use Rattle.eris_txn.specs.declared.packet.Packet.{Packet}
 use Rattle.eris_txn.specs.declared.txn.Txn.{Txn}
 use Rattle.eris_txn.specs.declared.txn.Txn.TheVariants.{Whole, General}
 use Rattle.eris_txn.specs.PlanValues.{PlanValue}
-use Rattle.eris_txn.specs.Plans.{guards_hold, value_in, writes_from, locks_in, locks_of}
+use Rattle.eris_txn.specs.Plans.{locks_in, locks_of}
 use Rattle.eris_audit.specs.Histories.{first_submit, is_submitted, txn_of}
-use Rattle.eris_serial.specs.Evidence.{Counted, Evidence, HasCommitEvidence, HasCommitOrigin, IsIn, Origins, SubmitsWell, AnsweredFirst, HasOwn, SaidOn, StandsBehind, SubmittedLater}
+use Rattle.eris_serial.specs.Evidence.{IsIn, SubmitsWell}
 use Rattle.eris_serial.specs.Transactions.{CanRun, CanRunPlan, keys_in}
-use Rattle.eris_base.specs.declared.ids.Phase.{Phase}
-use Rattle.eris_base.specs.declared.ids.ShardId.{ShardId}
-use Rattle.eris_txn.specs.declared.answer.Answer.{Answer}
 use Rattle.eris_txn.specs.declared.key.Key.{Key}
-use Rattle.eris_txn.specs.declared.op.Op.{Op}
 use Rattle.eris_txn.specs.declared.plan.PlanFault.{PlanFault}
 use Rattle.eris_txn.specs.declared.plan.Setting.{Setting}
 use Rattle.eris_txn.specs.Bodies.{keys_of}
-use Rattle.eris_txn.specs.PlanFacts.{IsPlan}
 use Rattle.eris_txn.specs.PlanFaults.{plan_fault}
-use Rattle.eris_txn.specs.Sizes.{event_has_size, is_few, txn_has_size}
+use Rattle.eris_txn.specs.Sizes.{event_has_size, txn_has_size}
 use Rattle.eris_txn.proofs.PlanLaws.{IsPlan-no_fault}
-use Rattle.eris_locks.specs.declared.done.Done.{Done}
-use Rattle.eris_locks.specs.declared.shard_packet.ShardPacket.{ShardPacket}
-use Rattle.eris_locks.specs.Law.{Said}
-use Rattle.eris_locks.specs.LockTable.{run_dones, run_state}
-use Rattle.eris_locks.specs.Shards.{cut, names_shard, on_shard}
-use Rattle.eris_locks.specs.States.{empty, is_conclusory}
-use Rattle.eris_lock_law.proofs.Runs.{dones_of_prefix}
-use Rattle.eris_audit.proofs.Places.{Each-from, EachAfter-from}
-use Rattle.eris_order.specs.Orders.{packets_on}
 
 -- a property of each item, of one that stands there
 pub Each-in : {X : Type 0} (P : X → Type 0) (items : List X) (item : X) → Each P items → IsIn item items → P item

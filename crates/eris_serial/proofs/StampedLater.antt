@@ -1,43 +1,18 @@
 -- From the order of stamping to the rule of real time: where what was answered before a submit stands in front of what
 -- is submitted, the order's lines stand so too. Two forms: a beginning of the order that has the one and not the
 -- other, and a sorted order.
-use Rattle.std.proofs.Common.{◌≡◌, Bool, true, false, cond, ◌≤◌, is_none, Option, Some, None, List, [], ◌∷◌, ◌++◌, length, map, refl, ap, sym, ◌∙◌, subst, append_assoc, arith, ◌⊎◌, inl, inr}
-use Rattle.std.proofs.lemmas.Bool.{both_ways}
-use Rattle.std.specs.Prelude.{IsTrue, IsFalse}
-use Rattle.eris_base.specs.declared.ids.Phase.{Phase}
-use Rattle.eris_base.specs.declared.ids.ShardId.{ShardId}
+use Rattle.std.proofs.Common.{◌≡◌, Bool, false, List, [], ◌∷◌, ◌++◌, refl, ap, sym, ◌∙◌, subst, append_assoc, ◌⊎◌, inl, inr}
+use Rattle.std.specs.Prelude.{IsTrue}
 use Rattle.eris_base.specs.declared.ids.TxnId.{TxnId}
 use Rattle.eris_base.specs.Each.{Each, EachAfter}
-use Rattle.eris_txn.specs.declared.answer.Answer.{Answer}
-use Rattle.eris_txn.specs.declared.body.Body.TheVariants.{Prelim}
 use Rattle.eris_txn.specs.declared.history.HistoryEvent.{HistoryEvent}
 use Rattle.eris_txn.specs.declared.history.HistoryEvent.TheVariants.{Submit, Read, Answer as Answered, Told}
-use Rattle.eris_txn.specs.declared.key.Key.{Key}
-use Rattle.eris_txn.specs.declared.op.Op.{Op}
 use Rattle.eris_txn.specs.declared.packet.Packet.{Packet}
-use Rattle.eris_txn.specs.declared.plan.PlanFault.{PlanFault}
-use Rattle.eris_txn.specs.declared.plan.Setting.{Setting}
 use Rattle.eris_txn.specs.declared.txn.Txn.{Txn}
-use Rattle.eris_txn.specs.declared.txn.Txn.TheVariants.{Whole, General}
-use Rattle.eris_txn.specs.Bodies.{keys_of}
-use Rattle.eris_txn.specs.PlanFacts.{IsPlan}
-use Rattle.eris_txn.specs.PlanFaults.{plan_fault}
-use Rattle.eris_txn.specs.PlanValues.{PlanValue}
-use Rattle.eris_txn.specs.Plans.{locks_in, locks_of}
-use Rattle.eris_txn.specs.Sizes.{event_has_size, is_few, txn_has_size}
-use Rattle.eris_txn.proofs.PlanLaws.{IsPlan-no_fault}
-use Rattle.eris_locks.specs.declared.done.Done.{Done}
-use Rattle.eris_locks.specs.declared.shard_packet.ShardPacket.{ShardPacket}
-use Rattle.eris_locks.specs.Law.{Said}
-use Rattle.eris_locks.specs.LockTable.{run_dones, run_state}
-use Rattle.eris_locks.specs.Shards.{cut, names_shard, on_shard}
-use Rattle.eris_locks.specs.States.{empty, is_conclusory}
-use Rattle.eris_lock_law.proofs.Runs.{dones_of_prefix}
+use Rattle.eris_locks.specs.States.{is_conclusory}
 use Rattle.eris_audit.proofs.Places.{Each-from, EachAfter-from}
-use Rattle.eris_order.specs.Orders.{packets_on}
-use Rattle.eris_serial.specs.Evidence.{AnsweredFirst, HasOwn, IsIn, SaidOn, StandsBehind, SubmittedLater, SubmitsWell}
+use Rattle.eris_serial.specs.Evidence.{AnsweredFirst, HasOwn, IsIn, StandsBehind, SubmittedLater}
 use Rattle.eris_serial.specs.Times.{EachAnswerFirst, IsOneWay, IsOrderedBy, IsOwn}
-use Rattle.eris_serial.specs.Transactions.{CanRun, keys_in}
 
 -- AN OWN PACKET
 pub own_there : (id : TxnId) (packets : List Packet) (packet : Packet) → IsIn packet packets → IsOwn id packet → HasOwn id packets

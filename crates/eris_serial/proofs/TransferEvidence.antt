@@ -1,6 +1,6 @@
 -- There is evidence for the transfer's history by its order: what the protocol owes can be had, also with a read that
 -- waits behind locks, and with an abort told of a transaction that isn't in the order.
-use Rattle.std.proofs.Common.{◌≡◌, ℕ, Bool, true, false, cond, ◌||◌, ◌==◌, is_some, option_map, Option, Some, None, List, [], ◌∷◌, ◌++◌, refl, sym, subst, ◌⊎◌, inl, inr}
+use Rattle.std.proofs.Common.{◌≡◌, ℕ, Bool, true, false, cond, ◌||◌, ◌==◌, is_some, option_map, Option, Some, None, List, [], ◌∷◌, refl, subst, ◌⊎◌, inl, inr}
 use Rattle.std.proofs.lemmas.Bool.{both_ways, eqb-true, or_cases}
 use Rattle.eris_base.specs.declared.ids.Phase.{Phase}
 use Rattle.eris_base.specs.declared.ids.ShardId.{ShardId}
@@ -14,14 +14,12 @@ use Rattle.eris_txn.specs.declared.key.Key.{Key}
 use Rattle.eris_txn.specs.declared.op.Op.{Op}
 use Rattle.eris_txn.specs.declared.op.Op.TheVariants.{Get, Put}
 use Rattle.eris_txn.specs.declared.op.OpAnswer.{OpAnswer}
-use Rattle.eris_txn.specs.declared.packet.Packet.{Packet}
-use Rattle.eris_txn.specs.declared.plan.Write.{Write}
 use Rattle.eris_txn.specs.Keys.{same_key}
 use Rattle.eris_txn.specs.Operations.{key_of}
 use Rattle.eris_locks.specs.Locks.{conflict}
 use Rattle.eris_locks.specs.Shards.{is_on}
 use Rattle.eris_audit.specs.Histories.{txn_of}
-use Rattle.eris_serial.specs.Evidence.{AnswerEvidence, ByOutcome, ByWhole, CommitOrigin, Evidence, IsIn, OutcomeEvidence, ReadEvidence, SaidOn, StandsBehind, WholeEvidence}
+use Rattle.eris_serial.specs.Evidence.{ByOutcome, ByWhole, CommitOrigin, Evidence, OutcomeEvidence, ReadEvidence, SaidOn, StandsBehind, WholeEvidence}
 use Rattle.eris_serial.specs.Shares.{share}
 use Rattle.eris_serial.proofs.StampedLater.{behind_old}
 use Rattle.eris_serial.proofs.Transfer.{a, asked, b, client, filled, history, locked, look, on_both, on_second, order, own, shard, transfer, txn}

@@ -1,6 +1,6 @@
 -- What operations, writes and settings do at the keys of one shard. Two maps of values that agree there still
 -- agree there after each transaction, where the second took only the shard's share of it.
-use Rattle.std.proofs.Common.{◌≡◌, ℕ, Bool, true, false, cond, ◌||◌, Option, Some, List, [], ◌∷◌, map, refl, ap, sym, ◌∙◌, ◌⊎◌, inl, inr}
+use Rattle.std.proofs.Common.{◌≡◌, ℕ, Bool, true, false, cond, Option, Some, List, [], ◌∷◌, map, refl, ap, sym, ◌∙◌, ◌⊎◌, inl, inr}
 use Rattle.std.proofs.lemmas.Bool.{or_parts, or_cases, and_parts, cases_Bool, cond-false, both_ways}
 use Rattle.std.specs.List.{filter, list_any, list_all}
 use Rattle.eris_base.specs.declared.ids.ShardId.{ShardId}
@@ -13,7 +13,7 @@ use Rattle.eris_txn.specs.Bodies.{any_on}
 use Rattle.eris_txn.specs.Keys.{same_key, Values, with_value}
 use Rattle.eris_txn.specs.Operations.{key_of, left_by, answered, after, after_all, answers}
 use Rattle.eris_txn.specs.PlanFaults.{is_among}
-use Rattle.eris_txn.specs.Plans.{locks_in, mode_of, set_by, writes_from, written}
+use Rattle.eris_txn.specs.Plans.{locks_in, mode_of, writes_from, written}
 use Rattle.eris_txn.proofs.KeyLaws.{same_key-true}
 use Rattle.eris_locks.specs.Shards.{is_on}
 use Rattle.eris_serial.specs.Shares.{share}
@@ -111,13 +111,6 @@ reads-share shard settings (key ∷ keys) values others agree = by_test (is_on s
         let head = agree key on in
         cc
     by_test false off rest = rest
-
--- items of which none passes a test
-pub filter-none : {X : Type 0} (test : X → Bool) (items : List X) → list_any test items ≡ false → filter test items ≡ []
-filter-none test [] none = refl
-filter-none test (item ∷ items) none =
-    let parts = or_parts (test item) (list_any test items) none in
-    cond-false (test item) (item ∷ filter test items) (filter test items) parts.0 ∙ filter-none test items parts.1
 
 -- operations none of whose keys is on the shard
 pub ops-off : (shard : ShardId) (ops : List Op) → any_on (map key_of ops) shard ≡ false → filter (op_on shard) ops ≡ []

@@ -13,7 +13,7 @@ use Rattle.eris_txn.specs.declared.body.Body.TheVariants.{Independent, Prelim, C
 use Rattle.eris_txn.specs.declared.history.HistoryEvent.{HistoryEvent}
 use Rattle.eris_txn.specs.declared.packet.Packet.{Packet}
 use Rattle.eris_txn.specs.declared.txn.Txn.{Txn}
-use Rattle.eris_txn.specs.declared.txn.Txn.TheVariants.{Whole, General}
+use Rattle.eris_txn.specs.declared.txn.Txn.TheVariants.{General}
 use Rattle.eris_txn.specs.Keys.{Values, no_values}
 use Rattle.eris_txn.specs.PlanValues.{PlanValue}
 use Rattle.eris_txn.specs.Plans.{guards_hold}
@@ -41,7 +41,7 @@ guards-at history before [] along = tt
 guards-at history before (line ∷ lines) along = (
   along.0,
   guards-at history (before ++ line ∷ []) lines
-  (subst (λ (values : Values). GuardsAlong (txn_of history) values lines) (sym (values_after-append (txn_of history) before (line ∷ []) no_values)) along.1),
+      (subst (λ (values : Values). GuardsAlong (txn_of history) values lines) (sym (values_after-append (txn_of history) before (line ∷ []) no_values)) along.1),
 )
 
 module _ (txn : TxnId → Txn) (runs : ShardId → List Served) (lasts : ShardId → Values) where

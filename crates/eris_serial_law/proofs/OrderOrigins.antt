@@ -1,24 +1,22 @@
 -- What evidence says of the order alone: where its packets come from, and that their transactions can be run.
-use Rattle.std.proofs.Common.{◌≡◌, ℕ, Bool, true, false, cond, Option, Some, None, is_some, unwrap_or, List, [], ◌∷◌, refl, ap, sym, ◌∙◌, subst, ◌⊎◌, inl, inr}
-use Rattle.std.proofs.lemmas.Bool.{both_ways}
+use Rattle.std.proofs.Common.{◌≡◌, List, ap, sym, ◌∙◌}
 use Rattle.std.specs.Prelude.{IsTrue}
 use Rattle.eris_base.specs.declared.ids.TxnId.{TxnId}
 use Rattle.eris_base.specs.Each.{Each}
-use Rattle.eris_base.specs.TxnIds.{same_id}
 use Rattle.eris_base.proofs.Each.{Each-weaker}
 use Rattle.eris_txn.specs.declared.body.Body.{Body}
 use Rattle.eris_txn.specs.declared.body.Body.TheVariants.{Independent, Prelim, Commit, Abort}
 use Rattle.eris_txn.specs.declared.history.HistoryEvent.{HistoryEvent}
-use Rattle.eris_txn.specs.declared.history.HistoryEvent.TheVariants.{Submit, Read, Answer as Answered, Told}
+use Rattle.eris_txn.specs.declared.history.HistoryEvent.TheVariants.{Read}
 use Rattle.eris_txn.specs.declared.packet.Packet.{Packet}
 use Rattle.eris_txn.specs.declared.txn.Txn.{Txn}
-use Rattle.eris_txn.specs.declared.txn.Txn.TheVariants.{Whole, General}
+use Rattle.eris_txn.specs.declared.txn.Txn.TheVariants.{General}
 use Rattle.eris_txn.specs.PlanValues.{PlanValue}
 use Rattle.eris_txn.specs.Plans.{guards_hold, value_in, writes_from}
-use Rattle.eris_audit.specs.Histories.{first_submit, is_submitted, txn_of}
-use Rattle.eris_serial.specs.Evidence.{Counted, Evidence, HasCommitEvidence, HasCommitOrigin, IsIn, Origins, SubmitsWell}
+use Rattle.eris_audit.specs.Histories.{is_submitted, txn_of}
+use Rattle.eris_serial.specs.Evidence.{Counted, Evidence, HasCommitEvidence, HasCommitOrigin, Origins}
 use Rattle.eris_serial.proofs.Runnable.{Each-in, txn_can_run}
-use Rattle.eris_serial.specs.Transactions.{CanRun, CanRunPlan}
+use Rattle.eris_serial.specs.Transactions.{CanRun}
 
 pub same_plan : (txn : Txn) (some other : PlanValue) → txn ≡ General some → txn ≡ General other → some ≡ other
 same_plan txn some other is is' = cc

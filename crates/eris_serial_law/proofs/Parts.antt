@@ -1,15 +1,13 @@
 -- A list with one item for each place is what its shards' shares say: two such lists with the same share on each
 -- shard are equal.
-use Rattle.std.proofs.Common.{◌≡◌, ℕ, Bool, true, false, cond, Option, List, [], ◌∷◌, map, refl, ap, sym, ◌∙◌}
+use Rattle.std.proofs.Common.{◌≡◌, Bool, true, false, cond, List, [], ◌∷◌, map, refl, sym, ◌∙◌}
 use Rattle.std.proofs.lemmas.Bool.{or_left, or_right, cond-true, eq-eqb}
-use Rattle.std.specs.List.{list_any}
 use Rattle.eris_base.specs.declared.ids.ShardId.{ShardId}
 use Rattle.eris_txn.specs.declared.key.Key.{Key}
 use Rattle.eris_txn.specs.declared.op.Op.{Op}
-use Rattle.eris_txn.specs.declared.op.OpAnswer.{OpAnswer}
 use Rattle.eris_txn.specs.Bodies.{any_on}
 use Rattle.eris_txn.specs.Keys.{Values}
-use Rattle.eris_txn.specs.Operations.{key_of, after, answers}
+use Rattle.eris_txn.specs.Operations.{after, answers}
 use Rattle.eris_locks.specs.Shards.{is_on}
 use Rattle.eris_serial.specs.Shares.{share, OneForEach}
 

@@ -1,6 +1,6 @@
 -- The five rules: evidence for a history by an order of packets makes it serial with the order's lines.
 use Rattle.std.proofs.Common.{◌≡◌, ℕ, Bool, true, false, cond, Option, Some, None, List, [], ◌∷◌, ◌++◌, map, refl, ap, sym, ◌∙◌, subst, map-id, ◌⊎◌, inl, inr}
-use Rattle.std.proofs.lemmas.Bool.{both_ways, cases_Bool, eq-eqb, or_left}
+use Rattle.std.proofs.lemmas.Bool.{both_ways, cases_Bool}
 use Rattle.std.specs.Prelude.{IsTrue, IsFalse}
 use Rattle.eris_base.specs.declared.ids.Phase.{Phase}
 use Rattle.eris_base.specs.declared.ids.ShardId.{ShardId}
@@ -14,23 +14,22 @@ use Rattle.eris_txn.specs.declared.body.Body.TheVariants.{Independent, Prelim, C
 use Rattle.eris_txn.specs.declared.history.HistoryEvent.{HistoryEvent}
 use Rattle.eris_txn.specs.declared.history.HistoryEvent.TheVariants.{Submit, Read, Answer as Answered, Told}
 use Rattle.eris_txn.specs.declared.key.Key.{Key}
-use Rattle.eris_txn.specs.declared.op.Op.{Op}
 use Rattle.eris_txn.specs.declared.op.OpAnswer.{OpAnswer}
 use Rattle.eris_txn.specs.declared.packet.Packet.{Packet}
 use Rattle.eris_txn.specs.declared.txn.Txn.{Txn}
-use Rattle.eris_txn.specs.declared.txn.Txn.TheVariants.{Whole, General}
+use Rattle.eris_txn.specs.declared.txn.Txn.TheVariants.{General}
 use Rattle.eris_txn.specs.Bodies.{any_on}
 use Rattle.eris_txn.specs.Keys.{Values, no_values}
 use Rattle.eris_txn.specs.Operations.{answers, key_of}
 use Rattle.eris_txn.specs.PlanValues.{PlanValue}
-use Rattle.eris_locks.specs.Law.{HasPacket, IsPlain, IsRight, StandsIn, plain_end}
+use Rattle.eris_locks.specs.Law.{HasPacket, IsPlain, IsRight, plain_end}
 use Rattle.eris_locks.specs.LockTable.{run_state}
 use Rattle.eris_locks.specs.ShardRun.{outcome_in as outcome_on}
 use Rattle.eris_locks.specs.Shards.{is_on, names_shard, on_shard}
 use Rattle.eris_locks.specs.States.{empty, is_conclusory}
 use Rattle.eris_locks.specs.WellFormed.{is_commit}
-use Rattle.eris_lock_law.proofs.Once.{answer_to, never_aborted, stands_once}
-use Rattle.eris_lock_law.proofs.SaidFrom.{ran, said_from}
+use Rattle.eris_lock_law.proofs.Once.{never_aborted, stands_once}
+use Rattle.eris_lock_law.proofs.SaidFrom.{ran}
 use Rattle.eris_audit.specs.declared.outcome.Outcome.{Outcome}
 use Rattle.eris_audit.specs.Histories.{is_submitted, txn_of}
 use Rattle.eris_audit.specs.IsSerial.{AnsweredStandsBefore, EqualsRun, FollowsAnswered, HasItsLine, IsAnswer, IsOrderLine, IsOutcome, IsSerial, IsToldOutcome, is_done, is_whole}
@@ -38,7 +37,7 @@ use Rattle.eris_audit.specs.Lines.{Line, has_line, outcome_in}
 use Rattle.eris_audit.specs.SerialRun.{result_in, result_of, values_after}
 use Rattle.eris_audit.proofs.Places.{Each-at}
 use Rattle.eris_order.specs.Orders.{lines, outcome_at, outcome_from, outcome_of}
-use Rattle.eris_serial.specs.Evidence.{AnswerEvidence, AnsweredFirst, BodyOrigin, ByOutcome, ByRefusal, ByWhole, Counted, Evidence, HasCommitEvidence, HasOwn, Origins, OutcomeEvidence, OwnOutcomeEvidence, ReadEvidence, RefusalEvidence, SubmitsWell, SubmittedLater, WholeEvidence}
+use Rattle.eris_serial.specs.Evidence.{AnswerEvidence, AnsweredFirst, BodyOrigin, ByOutcome, ByRefusal, ByWhole, Counted, Evidence, HasCommitEvidence, HasOwn, Origins, OutcomeEvidence, ReadEvidence, RefusalEvidence, SubmittedLater, WholeEvidence}
 use Rattle.eris_serial.specs.Shares.{share}
 use Rattle.eris_serial.specs.Transactions.{takes_part}
 use Rattle.eris_serial_law.proofs.AtShard.{op_on}

@@ -2,15 +2,14 @@
 -- order, the serial map agrees at each shard's keys with that shard's map. The one step that joins shards is a
 -- preliminary that commits: its writes are made of values which every shard that takes part has answered, and so
 -- they are the plan's writes over the serial map.
-use Rattle.std.proofs.Common.{◌≡◌, ℕ, Bool, true, false, cond, ◌||◌, Option, Some, List, [], ◌∷◌, map, refl, ap, sym, ◌∙◌, subst, map-id, ◌⊎◌, inl, inr}
-use Rattle.std.proofs.lemmas.Bool.{both_ways, and_parts, cond-true, cond-false, cases_Bool}
+use Rattle.std.proofs.Common.{◌≡◌, ℕ, Bool, true, false, cond, ◌||◌, Option, List, [], ◌∷◌, map, refl, ap, sym, ◌∙◌, subst, map-id, inl, inr}
+use Rattle.std.proofs.lemmas.Bool.{both_ways, and_parts}
 use Rattle.std.specs.List.{filter, list_all}
 use Rattle.std.specs.Prelude.{⊤}
 use Rattle.eris_base.specs.declared.ids.ShardId.{ShardId}
 use Rattle.eris_base.specs.declared.ids.TxnId.{TxnId}
 use Rattle.eris_base.specs.Each.{Each}
 use Rattle.eris_base.specs.TxnIds.{same_id, is_among}
-use Rattle.eris_base.proofs.TxnIdLaws.{same_id-true}
 use Rattle.eris_txn.specs.declared.answer.Answer.{Answer}
 use Rattle.eris_txn.specs.declared.answer.Answer.TheVariants.{Ops}
 use Rattle.eris_txn.specs.declared.body.Body.{Body}
@@ -26,7 +25,7 @@ use Rattle.eris_txn.specs.Keys.{Values}
 use Rattle.eris_txn.specs.Operations.{after_all, answers}
 use Rattle.eris_txn.specs.PlanFaults.{is_among as is_among_keys}
 use Rattle.eris_txn.specs.PlanValues.{PlanValue}
-use Rattle.eris_txn.specs.Plans.{guards_hold, locks_in, settled, value_in, writes_from, written}
+use Rattle.eris_txn.specs.Plans.{guards_hold, value_in, writes_from, written}
 use Rattle.eris_txn.proofs.PlanLaws.{guards_hold-map, settled-written, writes_from-map}
 use Rattle.eris_locks.specs.declared.shard_packet.ShardPacket.{ShardPacket}
 use Rattle.eris_locks.specs.Law.{StandsIn}
@@ -37,12 +36,12 @@ use Rattle.eris_locks.specs.States.{is_conclusory}
 use Rattle.eris_lock_law.proofs.Once.{answer_to}
 use Rattle.eris_audit.specs.declared.outcome.Outcome.{Outcome}
 use Rattle.eris_audit.specs.Lines.{Line}
-use Rattle.eris_audit.specs.SerialRun.{guards_of, left_by_txn, result_in, result_of, values_after}
-use Rattle.eris_order.specs.Orders.{lines_from, outcome_at, outcome_from, outcome_of}
+use Rattle.eris_audit.specs.SerialRun.{guards_of, left_by_txn}
+use Rattle.eris_order.specs.Orders.{outcome_at, outcome_from, outcome_of}
 use Rattle.eris_serial.specs.Shares.{share, OneForEach}
 use Rattle.eris_serial.specs.Transactions.{takes_part, CanRun, CanRunPlan}
 use Rattle.eris_serial_law.proofs.AtShard.{AgreeOn, after_all-share, answers-share, lock_on, op_on, ops-off, reads-share, write_on, writes-off, written-share}
-use Rattle.eris_serial_law.proofs.LineSteps.{by_packet, first_line}
+use Rattle.eris_serial_law.proofs.LineSteps.{first_line}
 use Rattle.eris_serial_law.proofs.Parts.{shares_decide, values-one_each}
 use Rattle.eris_serial_law.proofs.Sound.{BodySound, CommitSound, Sound, committed, conclusory-cut, is_committed, other_id, run-acts, run-conclusory, run-repeated, uncommitted, values-acts, values-conclusory, values-repeated, writes-on_shard, writes_to_come}
 

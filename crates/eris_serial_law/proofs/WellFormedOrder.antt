@@ -1,8 +1,8 @@
 -- On each shard the packets of an order with these origins are a well-formed list for the lock table. The packets of
 -- one id agree, since its transaction says what they are; and a Commit finds its preliminary holding, since the values
 -- that it was made of were said somewhere in the list. Hence what a shard says is what its plain run answers.
-use Rattle.std.proofs.Common.{◌≡◌, ℕ, Bool, true, false, cond, ◌&&◌, Option, Some, None, List, [], ◌∷◌, ◌++◌, refl, ap, sym, ◌∙◌, subst, append_assoc, append-nil, ◌⊎◌, inl, inr}
-use Rattle.std.proofs.lemmas.Bool.{and_from, and_parts, both_ways, or_cases, or_left, or_right}
+use Rattle.std.proofs.Common.{◌≡◌, ℕ, Bool, true, false, cond, Option, List, [], ◌∷◌, ◌++◌, refl, ap, sym, ◌∙◌, subst, append_assoc, append-nil, ◌⊎◌, inl, inr}
+use Rattle.std.proofs.lemmas.Bool.{and_parts, both_ways, or_cases, or_left, or_right}
 use Rattle.std.specs.List.{filter, list_all}
 use Rattle.eris_base.specs.declared.ids.Phase.{Phase}
 use Rattle.eris_base.specs.declared.ids.ShardId.{ShardId}
@@ -21,12 +21,11 @@ use Rattle.eris_txn.specs.declared.plan.Setting.{Setting}
 use Rattle.eris_txn.specs.declared.plan.Write.{Write}
 use Rattle.eris_txn.specs.declared.txn.Txn.{Txn}
 use Rattle.eris_txn.specs.declared.txn.Txn.TheVariants.{Whole, General}
-use Rattle.eris_txn.specs.Keys.{same_key, Values, no_values}
+use Rattle.eris_txn.specs.Keys.{same_key, Values}
 use Rattle.eris_txn.specs.PlanFaults.{is_among, sets}
 use Rattle.eris_txn.specs.PlanValues.{PlanValue}
 use Rattle.eris_txn.specs.Plans.{locks_in, locks_of, mode_of, write_of, writes_from}
 use Rattle.eris_txn.proofs.KeyLaws.{same_key-refl, same_key-true}
-use Rattle.eris_locks.specs.declared.done.Done.{Done}
 use Rattle.eris_locks.specs.declared.shard_packet.ShardPacket.{ShardPacket}
 use Rattle.eris_locks.specs.Law.{HoldsOrDecided, IsPlain, IsRight, Said, plain_answers}
 use Rattle.eris_locks.specs.Locks.{alters}
