@@ -1,0 +1,9 @@
+//! The messages that nodes send each other, and how each is spelled by bytes, read from them, and put
+//! into a stream of bytes and taken out of it.
+#![tactic(auto)]
+
+mod message;
+mod outgoing;
+
+pub use message::Message;
+pub use outgoing::Outgoing;
