@@ -1,0 +1,3 @@
+pub mod Addressees
+pub mod EpochMessages
+pub mod Outer
