@@ -1,0 +1,3 @@
+pub mod DropCounts
+pub mod Notes
+pub mod Requests

@@ -1,0 +1,9 @@
+//! Counting of temporary drops: which replicas dropped a place for a time, when a place is decided, and
+//! what a replica answers when it is asked about a place.
+#![tactic(auto)]
+
+mod drop_note;
+mod request;
+
+pub use drop_note::DropNote;
+pub use request::RequestAnswer;

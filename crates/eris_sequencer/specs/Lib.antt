@@ -1,0 +1,5 @@
+pub mod Asks
+pub mod SequencerValues
+pub mod Sequencers
+pub mod SequencersValues
+pub mod Stamps
