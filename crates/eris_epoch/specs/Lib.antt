@@ -1,0 +1,4 @@
+pub mod Closing
+pub mod EpochTallies
+pub mod SamePackets
+pub mod Sorting

@@ -1,0 +1,2 @@
+pub mod AckTallies
+pub mod ViewTallies
