@@ -1,3 +1,9 @@
 pub mod Addressees
 pub mod EpochMessages
 pub mod Outer
+pub mod ReplicaStates
+pub mod ReplicaAnswers
+pub mod Speaking
+pub mod Views
+pub mod Settling
+pub mod EpochReplicas
