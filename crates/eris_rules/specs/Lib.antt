@@ -7,3 +7,6 @@ pub mod Speaking
 pub mod Views
 pub mod Settling
 pub mod EpochReplicas
+pub mod Known
+pub mod InPlace
+pub mod Replicas
