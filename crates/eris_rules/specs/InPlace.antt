@@ -106,9 +106,20 @@ is_for_coordinator (Message.NewEpoch shard replica epoch) = true
 is_for_coordinator (Message.EpochState replica epoch part) = true
 is_for_coordinator message = false
 
--- A MESSAGE IN PLACE at a replica, and one at the coordinator
+-- the kinds that a client takes
+abbrev pub is_for_client : Message → Bool
+is_for_client (Message.Vouch view shard replica stamp id phase) = true
+is_for_client (Message.Reply view shard replica stamp id phase answer) = true
+is_for_client (Message.Late shard replica id phase answer) = true
+is_for_client message = false
+
+-- A MESSAGE IN PLACE at a replica, at the coordinator, and at a client, which asks more of it: that it fits what
+-- the client waits for
 unfoldable pub is_in_place_at_replica : ConfigValue → Message → Bool
 is_in_place_at_replica config message = is_for_replica message && is_sound config message
 
 unfoldable pub is_in_place_at_coordinator : ConfigValue → Message → Bool
 is_in_place_at_coordinator config message = is_for_coordinator message && is_sound config message
+
+unfoldable pub is_in_place_at_client : ConfigValue → Message → Bool
+is_in_place_at_client config message = is_for_client message && is_sound config message

@@ -10,3 +10,10 @@ pub mod EpochReplicas
 pub mod Known
 pub mod InPlace
 pub mod Replicas
+pub mod CoordStates
+pub mod EpochCoords
+pub mod Coordinators
+pub mod Assembling
+pub mod ClientStates
+pub mod Votes
+pub mod Clients

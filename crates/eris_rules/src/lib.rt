@@ -7,8 +7,10 @@ mod coord_input;
 mod refusal;
 mod replica_input;
 mod replica_status;
+mod transaction;
 
 pub use coord_input::CoordInput;
 pub use refusal::Refusal;
 pub use replica_input::ReplicaInput;
 pub use replica_status::ReplicaStatus;
+pub use transaction::{Course, Transaction, Vote};
