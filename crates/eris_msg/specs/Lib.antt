@@ -1,0 +1,5 @@
+pub mod Answers
+pub mod Codecs
+pub mod Fields
+pub mod Messages
+pub mod Parts

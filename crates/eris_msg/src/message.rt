@@ -1,5 +1,5 @@
 use eris_base::{
-    ClientId, Dup, Epoch, NoMemory, Phase, Place, ReplicaId, Row, ShardId, Stamp, TxnId, View,
+    ClientId, Dup, Epoch, NoMemory, Phase, Place, ReplicaId, Row, Same, ShardId, Stamp, TxnId, View,
 };
 use eris_log::Part;
 use eris_txn::{Answer, Body, Packet};
@@ -274,6 +274,235 @@ impl Dup for Message {
                 shard: *shard,
                 packets: packets.copy(alloc)?,
             }),
+        }
+    }
+}
+
+impl Same for Message {
+    fn same(&self, other: &Message) -> bool {
+        match (self, other) {
+            (
+                Message::Ask { asker, id, body },
+                Message::Ask {
+                    asker: other_asker,
+                    id: other_id,
+                    body: other_body,
+                },
+            ) => *asker == *other_asker && *id == *other_id && body.same(other_body),
+            (
+                Message::Txn { packet },
+                Message::Txn {
+                    packet: other_packet,
+                },
+            ) => packet.same(other_packet),
+            (
+                Message::Vouch {
+                    view,
+                    shard,
+                    replica,
+                    stamp,
+                    id,
+                    phase,
+                },
+                Message::Vouch {
+                    view: other_view,
+                    shard: other_shard,
+                    replica: other_replica,
+                    stamp: other_stamp,
+                    id: other_id,
+                    phase: other_phase,
+                },
+            ) => *view == *other_view
+                && *shard == *other_shard
+                && *replica == *other_replica
+                && stamp.same(other_stamp)
+                && *id == *other_id
+                && *phase == *other_phase,
+            (
+                Message::Reply {
+                    view,
+                    shard,
+                    replica,
+                    stamp,
+                    id,
+                    phase,
+                    answer,
+                },
+                Message::Reply {
+                    view: other_view,
+                    shard: other_shard,
+                    replica: other_replica,
+                    stamp: other_stamp,
+                    id: other_id,
+                    phase: other_phase,
+                    answer: other_answer,
+                },
+            ) => *view == *other_view
+                && *shard == *other_shard
+                && *replica == *other_replica
+                && stamp.same(other_stamp)
+                && *id == *other_id
+                && *phase == *other_phase
+                && answer.same(other_answer),
+            (
+                Message::Late {
+                    shard,
+                    replica,
+                    id,
+                    phase,
+                    answer,
+                },
+                Message::Late {
+                    shard: other_shard,
+                    replica: other_replica,
+                    id: other_id,
+                    phase: other_phase,
+                    answer: other_answer,
+                },
+            ) => *shard == *other_shard
+                && *replica == *other_replica
+                && *id == *other_id
+                && *phase == *other_phase
+                && answer.same(other_answer),
+            (
+                Message::Find { replica, place },
+                Message::Find {
+                    replica: other_replica,
+                    place: other_place,
+                },
+            ) => *replica == *other_replica && *place == *other_place,
+            (Message::Request { place }, Message::Request { place: other_place }) => *place
+                == *other_place,
+            (
+                Message::Has { packet },
+                Message::Has {
+                    packet: other_packet,
+                },
+            ) => packet.same(other_packet),
+            (
+                Message::TempDropped {
+                    place,
+                    shard,
+                    replica,
+                    view,
+                },
+                Message::TempDropped {
+                    place: other_place,
+                    shard: other_shard,
+                    replica: other_replica,
+                    view: other_view,
+                },
+            ) => *place == *other_place
+                && *shard == *other_shard
+                && *replica == *other_replica
+                && *view == *other_view,
+            (
+                Message::Found { packet },
+                Message::Found {
+                    packet: other_packet,
+                },
+            ) => packet.same(other_packet),
+            (Message::Dropped { place }, Message::Dropped { place: other_place }) => *place
+                == *other_place,
+            (
+                Message::ViewChange {
+                    replica,
+                    view,
+                    part,
+                },
+                Message::ViewChange {
+                    replica: other_replica,
+                    view: other_view,
+                    part: other_part,
+                },
+            ) => *replica == *other_replica && *view == *other_view && part.same(other_part),
+            (
+                Message::StartView { view, part },
+                Message::StartView {
+                    view: other_view,
+                    part: other_part,
+                },
+            ) => *view == *other_view && part.same(other_part),
+            (
+                Message::SyncAsk { epoch, view },
+                Message::SyncAsk {
+                    epoch: other_epoch,
+                    view: other_view,
+                },
+            ) => *epoch == *other_epoch && *view == *other_view,
+            (
+                Message::Ack {
+                    replica,
+                    epoch,
+                    view,
+                    length,
+                },
+                Message::Ack {
+                    replica: other_replica,
+                    epoch: other_epoch,
+                    view: other_view,
+                    length: other_length,
+                },
+            ) => *replica == *other_replica
+                && *epoch == *other_epoch
+                && *view == *other_view
+                && *length == *other_length,
+            (
+                Message::Settled {
+                    epoch,
+                    view,
+                    number,
+                    places,
+                },
+                Message::Settled {
+                    epoch: other_epoch,
+                    view: other_view,
+                    number: other_number,
+                    places: other_places,
+                },
+            ) => *epoch == *other_epoch
+                && *view == *other_view
+                && *number == *other_number
+                && places.same(other_places),
+            (
+                Message::NewEpoch {
+                    shard,
+                    replica,
+                    epoch,
+                },
+                Message::NewEpoch {
+                    shard: other_shard,
+                    replica: other_replica,
+                    epoch: other_epoch,
+                },
+            ) => *shard == *other_shard && *replica == *other_replica && *epoch == *other_epoch,
+            (Message::EpochAsk { epoch }, Message::EpochAsk { epoch: other_epoch }) => *epoch
+                == *other_epoch,
+            (
+                Message::EpochState {
+                    replica,
+                    epoch,
+                    part,
+                },
+                Message::EpochState {
+                    replica: other_replica,
+                    epoch: other_epoch,
+                    part: other_part,
+                },
+            ) => *replica == *other_replica && *epoch == *other_epoch && part.same(other_part),
+            (
+                Message::StartEpoch {
+                    epoch,
+                    shard,
+                    packets,
+                },
+                Message::StartEpoch {
+                    epoch: other_epoch,
+                    shard: other_shard,
+                    packets: other_packets,
+                },
+            ) => *epoch == *other_epoch && *shard == *other_shard && packets.same(other_packets),
+            _ => false,
         }
     }
 }

@@ -1,5 +1,5 @@
 use crate::message::Message;
-use eris_base::{Dup, NoMemory, Node};
+use eris_base::{Dup, NoMemory, Node, Same};
 use std::alloc::Global;
 
 /// A message that a step sends, and to whom.
@@ -15,5 +15,11 @@ impl Dup for Outgoing {
             to: self.to,
             message: self.message.copy(alloc)?,
         })
+    }
+}
+
+impl Same for Outgoing {
+    fn same(&self, other: &Outgoing) -> bool {
+        self.to == other.to && self.message.same(&other.message)
     }
 }

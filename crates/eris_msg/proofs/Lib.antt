@@ -1,0 +1,10 @@
+mod BodyLaws
+mod Chain
+mod FieldLaws
+mod LastItems
+mod Laws
+mod MessageLaws
+mod NameBytes
+mod PartLaws
+mod StampOrder
+mod TagLaws
