@@ -17,3 +17,9 @@ pub mod Assembling
 pub mod ClientStates
 pub mod Votes
 pub mod Clients
+pub mod Worlds
+pub mod Happenings
+pub mod Refusals
+pub mod Runs
+pub mod WorldOrders
+pub mod Good
