@@ -1,1 +1,8 @@
 pub mod OuterLaws
+mod Opened
+mod ExampleWords
+mod PlainExamples
+mod DropExamples
+mod ViewExamples
+mod GeneralExamples
+mod EpochExamples

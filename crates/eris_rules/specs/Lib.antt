@@ -23,3 +23,4 @@ pub mod Refusals
 pub mod Runs
 pub mod WorldOrders
 pub mod Good
+pub mod Reports
