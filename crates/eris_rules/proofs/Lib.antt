@@ -6,3 +6,4 @@ mod DropExamples
 mod ViewExamples
 mod GeneralExamples
 mod EpochExamples
+mod RefusalExamples

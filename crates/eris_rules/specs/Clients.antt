@@ -31,16 +31,16 @@ use Rattle.eris_rules.specs.Votes.{vote_fits, late_fits, waits_for, with_vote, w
 abbrev pub idle : ClientState → ClientOut
 idle state = record { state = state; sends = []; event = None }
 
--- it asks the sequencer to stamp a body, whose answers come back to it
-abbrev pub ask : ClientIdentity → TxnId → Body → Outgoing
-ask me id body = record { to = Sequencer; message = Message.Ask me.client id body }
+-- it asks the sequencer to stamp a body, and the answers come back to it
+abbrev pub ask_for : ClientIdentity → TxnId → Body → Outgoing
+ask_for me id body = record { to = Sequencer; message = Message.Ask me.client id body }
 
 -- a half of a transaction begins, with an Ask of its body
 unfoldable pub begins_half : ClientIdentity → ClientState → TxnId → Course → Option HistoryEvent → ClientOut
 begins_half me state id course event =
     record {
       state = with_transaction state id (begun_half course);
-      sends = ask me id (body_of course) ∷ [];
+      sends = ask_for me id (body_of course) ∷ [];
       event = event;
     }
 
@@ -55,7 +55,7 @@ submit me state txn =
 unfoldable pub asks_again : ClientIdentity → ClientState → TxnId → Transaction → ClientOut
 asks_again me state id transaction =
     if transaction.finished then idle state
-    else record { state = state; sends = ask me id (body_of transaction.course) ∷ []; event = None }
+    else record { state = state; sends = ask_for me id (body_of transaction.course) ∷ []; event = None }
 
 abbrev pub retries : ClientIdentity → ClientState → TxnId → Option Transaction → ClientOut
 retries me state id None = idle state
