@@ -1,5 +1,5 @@
 -- The message of one epoch in a message, and the message that is sent for it, undo each other.
-use Rattle.std.proofs.Common.{◌≡◌, ℕ, Option, Some, None, List, [], ◌∷◌, map, refl, ap, sym, ◌∙◌, subst}
+use Rattle.std.proofs.Common.{◌≡◌, ℕ, Option, Some, None, List, [], ◌∷◌, refl, ap, sym, ◌∙◌}
 use Rattle.eris_base.specs.declared.ids.Epoch.{Epoch}
 use Rattle.eris_base.specs.declared.ids.Place.{Place}
 use Rattle.eris_base.specs.declared.ids.ShardId.{ShardId}

@@ -1,7 +1,7 @@
 -- Events that are refused, and settled logs, computed.
 use Rattle.std.specs.Prelude.{◌≡◌, ℕ, Option, Some, None, List, [], ◌∷◌, ◌++◌, map, refl}
 use Rattle.std.specs.Option.{option_map, option_and_then}
-use Rattle.eris_base.specs.declared.ids.Node.TheVariants.{Coordinator, Client}
+use Rattle.eris_base.specs.declared.ids.Node.TheVariants.{Coordinator}
 use Rattle.eris_base.specs.declared.ids.ReplicaId.{ReplicaId}
 use Rattle.eris_base.specs.declared.ids.ShardId.{ShardId}
 use Rattle.eris_txn.specs.declared.op.Op.TheVariants.{Get, Put}
@@ -12,7 +12,7 @@ use Rattle.eris_rules.specs.Good.{settled_log}
 use Rattle.eris_rules.specs.Refusals.{refusal}
 use Rattle.eris_rules.specs.Runs.{run}
 use Rattle.eris_rules.specs.Worlds.{WorldState, replica_at}
-use Rattle.eris_rules.proofs.ExampleWords.{system, key, a, b, txn, plan, submit, general, retry, abort, deliver, deliver_to, flow, sync, crash, suspect, shard, replica, epoch, places}
+use Rattle.eris_rules.proofs.ExampleWords.{system, a, b, txn, plan, submit, general, retry, abort, deliver, deliver_to, flow, sync, crash, shard, replica, places}
 use Rattle.eris_rules.proofs.Opened.{all_rules}
 use Rattle.eris_rules.proofs.ViewExamples.{settled}
 

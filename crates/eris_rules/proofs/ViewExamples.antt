@@ -1,14 +1,14 @@
 -- Runs in which a learner crashes, or a log is settled, computed: one shard of three replicas.
-use Rattle.std.specs.Prelude.{◌≡◌, ℕ, Option, Some, None, List, [], ◌∷◌, ◌++◌, replicate, refl}
+use Rattle.std.specs.Prelude.{◌≡◌, Some, List, [], ◌∷◌, ◌++◌, refl}
 use Rattle.eris_txn.specs.declared.answer.Answer.{Answer}
 use Rattle.eris_txn.specs.declared.history.HistoryEvent.TheVariants as history
-use Rattle.eris_txn.specs.declared.op.Op.TheVariants.{Get, Put, Del, Add, Cas}
+use Rattle.eris_txn.specs.declared.op.Op.TheVariants.{Get, Put}
 use Rattle.eris_txn.specs.declared.op.OpAnswer.{OpAnswer}
 use Rattle.eris_txn.specs.declared.txn.Txn.{Txn}
 use Rattle.eris_audit.specs.declared.outcome.Outcome.{Outcome}
 use Rattle.eris_script.specs.declared.event.Event.{Event}
-use Rattle.eris_script.specs.declared.report.ReplicaState.TheVariants.{Crashed, Stopped, Normal, Changing}
-use Rattle.eris_rules.proofs.ExampleWords.{system, reported, epoch, key, a, b, txn, guard, set, plus, minus, plan, submit, general, retry, abort, deliver, deliver_to, flow, lose, suspect, sync, crash, line, ordered}
+use Rattle.eris_script.specs.declared.report.ReplicaState.TheVariants.{Crashed, Normal}
+use Rattle.eris_rules.proofs.ExampleWords.{system, reported, epoch, a, txn, submit, flow, lose, suspect, sync, crash, line, ordered}
 use Rattle.eris_rules.proofs.Opened.{all_rules}
 
 -- THE LEARNER EXECUTES ALONE AND CRASHES: nobody was answered, and the packet is dropped.
@@ -18,15 +18,15 @@ learner_alone = (submit 0 (Put a 1 ∷ []) ∷ []) ++ flow 2 ++ lose 2 ++ (crash
 learner_alone_report : reported (system 1 1 1) learner_alone ≡ Some (record {
   config = system 1 1 1;
   history = history.Submit (txn 0 1) (Txn.Whole (Put a 1 ∷ []))
-    ∷ history.Submit (txn 0 2) (Txn.Whole (Get a ∷ []))
-    ∷ history.Answer (txn 0 2) (Answer.Ops (OpAnswer.Absent ∷ []))
-    ∷ [];
+      ∷ history.Submit (txn 0 2) (Txn.Whole (Get a ∷ []))
+      ∷ history.Answer (txn 0 2) (Answer.Ops (OpAnswer.Absent ∷ []))
+      ∷ [];
   order = ordered (txn 0 2) Outcome.Done 0 ((0, 2) ∷ [])
-    ∷ [];
+      ∷ [];
   replicas = line 0 0 Crashed 0 0 1 1 0
-    ∷ line 0 1 Normal 0 1 1 2 0
-    ∷ line 0 2 Normal 0 1 1 2 0
-    ∷ [];
+      ∷ line 0 1 Normal 0 1 1 2 0
+      ∷ line 0 2 Normal 0 1 1 2 0
+      ∷ [];
   current = epoch 0;
   target = epoch 0;
   found = 0;
@@ -43,17 +43,17 @@ after_an_answer = (submit 0 (Put a 7 ∷ []) ∷ []) ++ flow 7 ++ (crash 0 0 ∷
 after_an_answer_report : reported (system 1 1 1) after_an_answer ≡ Some (record {
   config = system 1 1 1;
   history = history.Submit (txn 0 1) (Txn.Whole (Put a 7 ∷ []))
-    ∷ history.Answer (txn 0 1) (Answer.Ops (OpAnswer.Done ∷ []))
-    ∷ history.Submit (txn 0 2) (Txn.Whole (Get a ∷ []))
-    ∷ history.Answer (txn 0 2) (Answer.Ops (OpAnswer.Value 7 ∷ []))
-    ∷ [];
+      ∷ history.Answer (txn 0 1) (Answer.Ops (OpAnswer.Done ∷ []))
+      ∷ history.Submit (txn 0 2) (Txn.Whole (Get a ∷ []))
+      ∷ history.Answer (txn 0 2) (Answer.Ops (OpAnswer.Value 7 ∷ []))
+      ∷ [];
   order = ordered (txn 0 1) Outcome.Done 0 ((0, 1) ∷ [])
-    ∷ ordered (txn 0 2) Outcome.Done 0 ((0, 2) ∷ [])
-    ∷ [];
+      ∷ ordered (txn 0 2) Outcome.Done 0 ((0, 2) ∷ [])
+      ∷ [];
   replicas = line 0 0 Crashed 0 0 1 1 0
-    ∷ line 0 1 Normal 0 1 2 2 0
-    ∷ line 0 2 Normal 0 1 2 2 0
-    ∷ [];
+      ∷ line 0 1 Normal 0 1 2 2 0
+      ∷ line 0 2 Normal 0 1 2 2 0
+      ∷ [];
   current = epoch 0;
   target = epoch 0;
   found = 0;
@@ -70,14 +70,14 @@ settled = (submit 0 (Put a 7 ∷ []) ∷ []) ++ flow 7 ++ (sync 0 0 ∷ []) ++ f
 settled_report : reported (system 1 1 1) settled ≡ Some (record {
   config = system 1 1 1;
   history = history.Submit (txn 0 1) (Txn.Whole (Put a 7 ∷ []))
-    ∷ history.Answer (txn 0 1) (Answer.Ops (OpAnswer.Done ∷ []))
-    ∷ [];
+      ∷ history.Answer (txn 0 1) (Answer.Ops (OpAnswer.Done ∷ []))
+      ∷ [];
   order = ordered (txn 0 1) Outcome.Done 0 ((0, 1) ∷ [])
-    ∷ [];
+      ∷ [];
   replicas = line 0 0 Normal 0 0 1 1 1
-    ∷ line 0 1 Normal 0 0 1 1 1
-    ∷ line 0 2 Normal 0 0 1 1 1
-    ∷ [];
+      ∷ line 0 1 Normal 0 0 1 1 1
+      ∷ line 0 2 Normal 0 0 1 1 1
+      ∷ [];
   current = epoch 0;
   target = epoch 0;
   found = 0;

@@ -6,7 +6,6 @@ use Rattle.eris_base.specs.declared.ids.Node.TheVariants.{Sequencer}
 use Rattle.eris_base.specs.declared.ids.Phase.{Phase}
 use Rattle.eris_base.specs.declared.ids.ShardId.{ShardId}
 use Rattle.eris_base.specs.declared.ids.TxnId.{TxnId}
-use Rattle.eris_base.specs.ConfigLimits.{ConfigValue}
 use Rattle.eris_txn.specs.declared.answer.Answer.{Answer}
 use Rattle.eris_txn.specs.declared.body.Body.{Body}
 use Rattle.eris_txn.specs.declared.history.HistoryEvent.{HistoryEvent}
@@ -48,7 +47,7 @@ begins_half me state id course event =
 unfoldable pub submit : ClientIdentity → ClientState → Txn → ClientOut
 submit me state txn =
     begins_half me (record state { submitted = state.submitted + 1 }) (next_id me state) (course_of txn)
-      (Some (HistoryEvent.Submit (next_id me state) txn))
+    (Some (HistoryEvent.Submit (next_id me state) txn))
 
 -- The Ask of the present half again, which is stamped anew: the first surviving stamp is the one that acts. A
 -- finished transaction asks for nothing.
@@ -116,13 +115,13 @@ answers_counted transaction = map (λ pair. pair.1) transaction.counted
 unfoldable pub is_executed : ClientState → TxnId → Transaction → ClientOut
 is_executed state id transaction =
     finishes state id transaction
-      (HistoryEvent.Answer id (Answer.Ops (all_op_answers (body_of transaction.course) transaction.counted)))
+    (HistoryEvent.Answer id (Answer.Ops (all_op_answers (body_of transaction.course) transaction.counted)))
 
 -- The values that were read decide: the second half commits the plan's writes of them where its guards hold.
 unfoldable pub concludes : ClientIdentity → ClientState → TxnId → PlanValue → List (Option ℕ) → ClientOut
 concludes me state id plan values =
     begins_half me state id (Concluding plan (conclusion_of plan (value_in plan.keys values)))
-      (Some (HistoryEvent.Read id values))
+    (Some (HistoryEvent.Read id values))
 
 -- where some shard aborted the first half, since another client's abort came before it, all is over
 unfoldable pub has_read : ClientIdentity → ClientState → TxnId → Transaction → PlanValue → ClientOut

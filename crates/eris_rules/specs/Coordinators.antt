@@ -5,15 +5,12 @@
 use Rattle.std.specs.Prelude.{Bool, not, ◌==◌, ◌&&◌, nat_lt, nat_le, Option, Some, None, List, [], ◌∷◌, ◌++◌, map, if◌then◌else◌}
 use Rattle.std.specs.List.{flat_map, range_with_len}
 use Rattle.eris_base.specs.declared.ids.Epoch.{Epoch}
-use Rattle.eris_base.specs.declared.ids.Node.{Node}
 use Rattle.eris_base.specs.declared.ids.Node.TheVariants.{Replica}
-use Rattle.eris_base.specs.declared.ids.Place.{Place}
 use Rattle.eris_base.specs.declared.ids.ReplicaId.{ReplicaId}
 use Rattle.eris_base.specs.declared.ids.ShardId.{ShardId}
 use Rattle.eris_base.specs.ConfigLimits.{ConfigValue}
 use Rattle.eris_txn.specs.declared.packet.Packet.{Packet}
 use Rattle.eris_log.specs.PartValues.{PartValue}
-use Rattle.eris_epoch.specs.declared.noted.NotedPart.{NotedPart}
 use Rattle.eris_epoch.specs.Closing.{close, shard_log}
 use Rattle.eris_epoch.specs.EpochTallies.{EpochTallyValue, with_noted, is_ready}
 use Rattle.eris_msg.specs.declared.message.Message.{Message}
@@ -22,7 +19,7 @@ use Rattle.eris_rules.specs.declared.coord_input.CoordInput.{CoordInput}
 use Rattle.eris_rules.specs.Addressees.{shard_replicas, all_replicas}
 use Rattle.eris_rules.specs.CoordStates.{EpochCoordOut, CoordState, CoordOut, begun_epoch, is_frozen}
 use Rattle.eris_rules.specs.EpochCoords.{epoch_coord_step, nudge_row}
-use Rattle.eris_rules.specs.EpochMessages.{EpochMessage, Stamped, Instructs, Notifies, Exchanges, Responds, Notice, Find, Has, TempDropped}
+use Rattle.eris_rules.specs.EpochMessages.{EpochMessage, Stamped, Instructs, Notifies, Exchanges, Responds, Find, Has, TempDropped}
 use Rattle.eris_rules.specs.InPlace.{is_in_place_at_coordinator}
 use Rattle.eris_rules.specs.Outer.{Inner, inner_of, outer_sends}
 

@@ -1,7 +1,7 @@
 -- The step of the coordinator within one epoch: it finds the packet of a place that a replica lacks, or drops
 -- the place for good, and never both. A packet is dropped as a whole: one dropped place is enough.
-use Rattle.std.specs.Prelude.{Bool, not, Option, Some, None, List, [], ◌∷◌, ◌++◌, find, fold, if◌then◌else◌}
-use Rattle.std.specs.List.{filter, flat_map, list_any}
+use Rattle.std.specs.Prelude.{not, Option, Some, None, List, [], ◌∷◌, ◌++◌, find, fold, if◌then◌else◌}
+use Rattle.std.specs.List.{filter, flat_map}
 use Rattle.eris_base.specs.declared.ids.Node.{Node}
 use Rattle.eris_base.specs.declared.ids.Node.TheVariants.{Replica}
 use Rattle.eris_base.specs.declared.ids.Place.{Place}

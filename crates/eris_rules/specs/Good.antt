@@ -1,6 +1,6 @@
 -- What makes a world good: its history is serial in its order, and what a replica has settled is how that order
 -- begins on its shard.
-use Rattle.std.specs.Prelude.{◌≡◌, ℕ, zero, suc, ◌+◌, Bool, true, false, Option, Some, None, List, [], ◌∷◌, ◌++◌}
+use Rattle.std.specs.Prelude.{◌≡◌, ℕ, zero, suc, ◌+◌, Bool, true, false, Some, List, [], ◌++◌}
 use Rattle.eris_base.specs.declared.ids.ReplicaId.{ReplicaId}
 use Rattle.eris_base.specs.declared.ids.ShardId.{ShardId}
 use Rattle.eris_txn.specs.declared.packet.Packet.{Packet}
@@ -41,7 +41,7 @@ pub record BeginsWith (all front : List Packet) : Type 0 where
 -- each replica's settled log, also of one that has crashed, is how the order begins on its shard
 pub record AreSettledRight (world : WorldState) : Type 0 where
   pub at : (shard : ShardId) (replica : ReplicaId) (state : ReplicaState) → replica_at world.replicas shard replica ≡ Some state
-    → BeginsWith (order_on shard world) (settled_log state)
+      → BeginsWith (order_on shard world) (settled_log state)
 
 -- A GOOD WORLD
 pub record Good (world : WorldState) : Type 0 where

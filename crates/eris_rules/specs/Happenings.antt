@@ -1,6 +1,6 @@
 -- What each event does to a world. An event is one step of one node, or something that the network does; where it
 -- names what isn't there, nothing is done (and such an event is refused).
-use Rattle.std.specs.Prelude.{ℕ, ◌++◌, Bool, Option, Some, None, List, ◌∷◌, [], slice_get, slice_set, unwrap_or, if◌then◌else◌}
+use Rattle.std.specs.Prelude.{ℕ, ◌++◌, Option, Some, None, List, ◌∷◌, [], slice_get, slice_set, unwrap_or, if◌then◌else◌}
 use Rattle.eris_base.specs.declared.ids.ClientId.{ClientId}
 use Rattle.eris_base.specs.declared.ids.Epoch.{Epoch}
 use Rattle.eris_base.specs.declared.ids.Node.{Node}
@@ -23,7 +23,7 @@ use Rattle.eris_rules.specs.Clients.{submit, retry, abort, client_step}
 use Rattle.eris_rules.specs.ClientStates.{ClientIdentity, ClientState, ClientOut, transaction_at, plan_of}
 use Rattle.eris_rules.specs.Coordinators.{coord_step}
 use Rattle.eris_rules.specs.CoordStates.{CoordOut}
-use Rattle.eris_rules.specs.ReplicaStates.{Identity, ReplicaState, ReplicaOut}
+use Rattle.eris_rules.specs.ReplicaStates.{ReplicaState, ReplicaOut}
 use Rattle.eris_rules.specs.Replicas.{replica_step}
 use Rattle.eris_rules.specs.Worlds.{WorldState, replica_at, with_replica, client_at, has_crashed, with_sends, no_longer_waiting, with_event}
 
@@ -59,11 +59,11 @@ sequencer_takes config world epoch message = after_sequencer world (ask config w
 unfoldable pub after_client : WorldState → ClientId → ClientOut → WorldState
 after_client world client out =
     with_sends
-      (record world {
-        clients = slice_set world.clients client.0 out.state;
-        history = with_event world.history out.event;
-      })
-      out.sends
+    (record world {
+      clients = slice_set world.clients client.0 out.state;
+      history = with_event world.history out.event;
+    })
+    out.sends
 
 -- a client acts, of itself or by a message
 abbrev pub client_acts_by : ConfigValue → WorldState → ClientId → (ClientIdentity → ClientState → ClientOut) → Option ClientState → WorldState

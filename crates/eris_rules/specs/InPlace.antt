@@ -1,6 +1,6 @@
 -- Messages that are in place. One that is out of place changes nothing at a node and sends nothing, so bytes
 -- that decode but that no node would send do no harm.
-use Rattle.std.specs.Prelude.{ℕ, Bool, true, false, ◌==◌, ◌&&◌, nat_lt, Option, Some, None, List, [], ◌∷◌, map}
+use Rattle.std.specs.Prelude.{ℕ, Bool, true, false, ◌==◌, ◌&&◌, nat_lt, List, [], ◌∷◌, map}
 use Rattle.std.specs.List.{list_all}
 use Rattle.eris_base.specs.declared.ids.Epoch.{Epoch}
 use Rattle.eris_base.specs.declared.ids.ShardId.{ShardId}
@@ -8,7 +8,6 @@ use Rattle.eris_base.specs.declared.stamp.Stamp.{Stamp}
 use Rattle.eris_base.specs.ConfigLimits.{ConfigValue}
 use Rattle.eris_base.specs.Places.{number_in}
 use Rattle.eris_base.specs.StampPlaces.{is_number}
-use Rattle.eris_txn.specs.declared.body.Body.{Body}
 use Rattle.eris_txn.specs.declared.packet.Packet.{Packet}
 use Rattle.eris_txn.specs.Bodies.{participants_of}
 use Rattle.eris_log.specs.PartValues.{PartValue}

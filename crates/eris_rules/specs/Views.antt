@@ -2,7 +2,7 @@
 -- when f+1 replicas, itself among them, have given it what they know; each of them has by then left the views
 -- below, so what was counted in such a view is in the union of their parts, and so are the temporary drops
 -- that f+1 replicas made there.
-use Rattle.std.specs.Prelude.{◌+◌, ◌-◌, ◌^◌, Bool, not, ◌==◌, ◌&&◌, ◌||◌, nat_lt, None, List, [], ◌∷◌, if◌then◌else◌}
+use Rattle.std.specs.Prelude.{◌+◌, ◌-◌, ◌^◌, Bool, not, ◌==◌, ◌&&◌, ◌||◌, nat_lt, None, [], ◌∷◌, if◌then◌else◌}
 use Rattle.eris_base.specs.declared.ids.ReplicaId.{ReplicaId}
 use Rattle.eris_base.specs.declared.ids.View.{View}
 use Rattle.eris_base.specs.declared.ids.Node.TheVariants.{Replica}
@@ -11,7 +11,7 @@ use Rattle.eris_log.specs.PartValues.{PartValue}
 use Rattle.eris_log.specs.Parts.{merge}
 use Rattle.eris_view.specs.ViewTallies.{ViewTallyValue, with_part, is_ready, union_of}
 use Rattle.eris_rules.specs.declared.replica_status.ReplicaStatus.TheVariants.{Normal, Changing}
-use Rattle.eris_rules.specs.EpochMessages.{EpochSend, send, send_each, Exchanges, ViewChange, StartView}
+use Rattle.eris_rules.specs.EpochMessages.{send, send_each, Exchanges, ViewChange, StartView}
 use Rattle.eris_rules.specs.ReplicaStates.{Member, EpochReplica, EpochOut, quiet, is_normal, is_learner, learner_node, others}
 
 -- in a view that hasn't begun

@@ -8,7 +8,7 @@ use Rattle.eris_base.specs.Quorums.{learner_of, same_replica, are_quorum}
 use Rattle.eris_txn.specs.declared.answer.Answer.{Answer}
 use Rattle.eris_txn.specs.declared.body.Body.{Body}
 use Rattle.eris_txn.specs.declared.body.Body.TheVariants.{Independent, Prelim, Commit, Abort}
-use Rattle.eris_txn.specs.Bodies.{keys_of, participants_of, has_shard, any_on}
+use Rattle.eris_txn.specs.Bodies.{keys_of, participants_of, has_shard}
 use Rattle.eris_locks.specs.States.{phase_of, same_phase}
 use Rattle.eris_epoch.specs.SamePackets.{same_stamp}
 use Rattle.eris_rules.specs.declared.transaction.Transaction.{Transaction}

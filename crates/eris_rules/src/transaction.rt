@@ -43,9 +43,10 @@ impl Dup for Course {
         match self {
             Course::Executing(ops) => Ok(Course::Executing(ops.copy(alloc)?)),
             Course::Reading(plan) => Ok(Course::Reading(plan.copy(alloc)?)),
-            Course::Concluding(plan, body) => Ok(Course::Concluding(plan.copy(alloc)?, body.copy(
-                alloc,
-            )?)),
+            Course::Concluding(plan, body) => Ok(Course::Concluding(
+                plan.copy(alloc)?,
+                body.copy(alloc)?,
+            )),
             Course::Aborting(keys) => Ok(Course::Aborting(keys.copy(alloc)?)),
         }
     }
@@ -71,5 +72,56 @@ impl Dup for Transaction {
             counted: self.counted.copy(alloc)?,
             finished: self.finished,
         })
+    }
+}
+
+#[cfg(test)]
+mod tests {
+    use super::*;
+    use eris_base::{Epoch, Same};
+    use std::test::Fail;
+
+    fn stamp(alloc: Global) -> Result<Stamp, NoMemory> {
+        let mut places = Row::new(alloc);
+        places.push((ShardId(1), 5))?;
+        Ok(Stamp {
+            epoch: Epoch(2),
+            places,
+        })
+    }
+
+    fn transaction(alloc: Global) -> Result<Transaction, NoMemory> {
+        let mut votes = Row::new(alloc);
+        votes.push(Vote {
+            shard: ShardId(1),
+            replica: ReplicaId(2),
+            view: View(3),
+            stamp: stamp(alloc)?,
+            answer: Some(Answer::Aborted),
+        })?;
+        let mut counted = Row::new(alloc);
+        counted.push((ShardId(1), Answer::Committed))?;
+        Ok(Transaction {
+            course: Course::Aborting(Row::new(alloc)),
+            votes,
+            counted,
+            finished: true,
+        })
+    }
+
+    #[test]
+    fn a_transaction_is_copied_whole(rt: HostRuntime) -> Result<(), Fail> {
+        let alloc = rt.alloc();
+        let copied = transaction(alloc)?.copy(alloc)?;
+        assert_eq!(rt; copied.finished, true);
+        assert_eq!(rt; matches!(copied.course, Course::Aborting(_)), true);
+        let stamp = stamp(alloc)?;
+        for vote in copied.votes.as_slice() {
+            assert_eq!(rt; vote.stamp.same(&stamp), true);
+            assert_eq!(rt; vote.answer.same(&Some(Answer::Aborted)), true);
+        }
+        assert_eq!(rt; copied.counted.len(), 1);
+        assert_eq!(rt; copied.votes.len(), 1);
+        Ok(())
     }
 }
