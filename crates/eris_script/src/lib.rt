@@ -1,8 +1,12 @@
-//! The texts that a run reads and writes: decimal numbers, the reasons for which a script's line is
-//! refused, and the report.
+//! The texts that a run reads and writes: the events of a script and the grammar of its lines, the
+//! reasons for which a line is refused, and the report.
 #![tactic(auto)]
 
+mod event;
+mod header;
 mod history_text;
+mod line;
+mod line_fault;
 mod number;
 mod op_text;
 mod order_text;
@@ -13,6 +17,10 @@ mod report;
 mod report_text;
 mod words;
 
+pub use event::Event;
+pub use header::Header;
+pub use line::Line;
+pub use line_fault::LineFault;
 pub use number::{append_decimal, read_number};
 pub use reason::Reason;
 pub use report::{ReplicaLine, ReplicaState, Report};
