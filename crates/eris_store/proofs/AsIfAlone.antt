@@ -1,5 +1,10 @@
 -- The law of the lock store, for a store that took packets before.
-use Rattle.std.proofs.Common.{◌≡◌, List, [], ◌++◌, ap, sym, ◌∙◌, subst}
+use Rattle.std.proofs.Common.{◌≡◌, Option, None, List, [], ◌++◌, ap, sym, ◌∙◌, subst}
+use Rattle.eris_base.specs.declared.ids.Phase.{Phase}
+use Rattle.eris_base.specs.declared.ids.Phase.TheVariants.{Conclude}
+use Rattle.eris_base.specs.declared.ids.TxnId.{TxnId}
+use Rattle.eris_txn.specs.declared.answer.Answer.{Answer}
+use Rattle.eris_lock_law.proofs.Unrecorded.{conclusion_unrecorded}
 use Rattle.eris_base.specs.Each.{Each}
 use Rattle.eris_base.proofs.Each.{Each-right}
 use Rattle.eris_lock_law.proofs.Ended.{state_after}
@@ -39,3 +44,12 @@ plain_at_end before packets old new is ran =
     subst (λ (s : StoreState). s.holding ≡ [] → (s.waiting ≡ []) × (WellFormed (before ++ packets) → s.values ≡ plain_end (before ++ packets)))
     (state_after before packets empty ∙ ap (λ (s : StoreState). run_state s packets) (sym is) ∙ sym ran)
     (λ h. (waiting_none (before ++ packets) h, λ well. values_right (before ++ packets) well h))
+
+-- no conclusion is recorded
+pub none_recorded : (packets : List ShardPacket) (state : StoreState) (id : TxnId) (phase : Phase) (found : Option Answer)
+    → state ≡ run_state empty packets → phase ≡ Conclude → found ≡ state.recorded id phase → found ≡ None
+none_recorded packets state id phase found is concludes here =
+    here
+    ∙ ap (λ (s : StoreState). s.recorded id phase) is
+    ∙ ap (λ (kind : Phase). (run_state empty packets).recorded id kind) concludes
+    ∙ conclusion_unrecorded packets id

@@ -1,4 +1,4 @@
-use Rattle.std.specs.Prelude.{List, [], ◌∷◌, false}
+use Rattle.std.specs.Prelude.{List, [], false}
 use Rattle.eris_txn.specs.declared.answer.Answer.{Answer}
 use Rattle.eris_txn.specs.declared.answer.Answer.TheVariants.{Aborted}
 use Rattle.eris_txn.specs.declared.plan.Write.{Write}

@@ -72,11 +72,7 @@ pub(crate) fn note(
 }
 
 /// Decides an id, in front of the older decisions.
-pub(crate) fn decide(
-    decided: &mut Row<Decided>,
-    id: TxnId,
-    outcome: Answer,
-) -> Result<(), NoMemory>
+pub(crate) fn decide(decided: &mut Row<Decided>, id: TxnId, outcome: Answer) -> Result<(), NoMemory>
     ensures { OnOk result (decided_in decided.new ≡ decide (decided_in decided.old) id outcome) }
 {
     decided.insert(0, Decided { id, outcome })

@@ -1,4 +1,5 @@
-ghost use Rattle.std.specs.Prelude.{◌≡◌, List, [], ◌++◌, false, is_err, IfOk, OnOk};
+ghost use Rattle.std.specs.Prelude.{◌≡◌, None, List, [], ◌++◌, false, is_err, IfOk, OnOk};
+ghost use Rattle.eris_base.specs.declared.ids.Phase.TheVariants.{Conclude};
 ghost use Rattle.eris_base.specs.Each.{Each};
 ghost use Rattle.eris_locks.specs.declared.shard_packet.ShardPacket.{ShardPacket};
 ghost use Rattle.eris_locks.specs.Law.{plain_end, IsRightDone};
@@ -99,15 +100,17 @@ impl LockStore {
         dones
     }
 
-    /// The answer that is kept for an id and a phase. None exactly where none is kept; an outcome is
-    /// decided and not kept so. It needs a store that isn't spent.
+    /// The answer that is kept for an id and a phase, None exactly where none is. A store that took any
+    /// packets keeps none of phase Conclude, since an outcome is decided. It needs a store that isn't spent.
     ///
     /// # Errors
     ///
     /// [`NoMemory`] where an allocation was refused.
     pub fn recorded(&self, id: TxnId, phase: Phase) -> Result<Option<Answer>, NoMemory>
         requires { self.now.spent ≡ false }
-        ensures { IfOk result (λ found. found ≡ (state_of self.now).recorded id phase) }
+        ensures found { IfOk result (λ found. found ≡ (state_of self.now).recorded id phase) }
+        ensures outcomes { IfOk result (λ found. (packets : List ShardPacket) → state_of self.now ≡ run_state empty packets
+            → phase ≡ Conclude → found ≡ None) }
     {
         self.store.recorded(id, phase)
     }

@@ -75,7 +75,9 @@ fn is_conflict(some: &[Lock], others: &[Lock]) -> bool
 fn is_held(holding: &[Held], locks: &[Lock]) -> bool
     ensures { result ≡ list_any (λ held. conflict held.locks locks.now) holding.now }
 {
-    holding.iter().any(|held| is_conflict(held.locks.as_slice(), locks))
+    holding
+        .iter()
+        .any(|held| is_conflict(held.locks.as_slice(), locks))
 }
 
 /// Whether the locks conflict with those of a packet.

@@ -98,8 +98,7 @@ impl PlainStore {
         match &packet.body {
             Body::Independent(_) => self.arrive(packet),
             Body::Prelim(_) => self.arrive(packet),
-            Body::Commit(_, writes) =>
-                self.conclude(&packet, Answer::Committed, writes.as_slice()),
+            Body::Commit(_, writes) => self.conclude(&packet, Answer::Committed, writes.as_slice()),
             Body::Abort(_) => self.conclude(&packet, Answer::Aborted, &[]),
         }
     }
@@ -207,10 +206,7 @@ impl PlainStore {
     {
         let kept = outcome.copy(self.alloc)?;
         let waiting = self.end_holding(packet, kept, writes)?;
-        let mut dones = only(
-            self.alloc,
-            done_for(packet.at, packet, outcome, false),
-        )?;
+        let mut dones = only(self.alloc, done_for(packet.at, packet, outcome, false))?;
         self.release(packet.at, waiting, &mut dones)?;
         Ok(dones)
     }

@@ -1,4 +1,4 @@
-use Rattle.std.proofs.Common.{◌≡◌, ◌++◌, drop}
+use Rattle.std.proofs.Common.{◌≡◌, drop}
 use Rattle.eris_locks.specs.LockTable.{aborted_late}
 use Rattle.eris_store.proofs.packets.add_aborted_late.Given as goal
 

@@ -7,7 +7,7 @@ use Rattle.eris_store.proofs.run.run_plain.Given as goal
 abbrev pub invariant-loop-packet : goal.invariant-loop-packet
 invariant-loop-packet l = record {
   dones : l.dones ++ run_dones (plain_state l.store) (on_shard l.shard (drop l.packet-index l.packets))
-    ≡ run_dones (plain_state l.fn.store) (on_shard l.shard l.packets);
+      ≡ run_dones (plain_state l.fn.store) (on_shard l.shard l.packets);
   state : run_state (plain_state l.store) (on_shard l.shard (drop l.packet-index l.packets))
-    ≡ run_state (plain_state l.fn.store) (on_shard l.shard l.packets);
+      ≡ run_state (plain_state l.fn.store) (on_shard l.shard l.packets);
 }

@@ -14,7 +14,7 @@ returns-clause-answers c =
     let packets = on_shard c.self.inside.shard c.args.packets.now in
     rw (← c.self.view_is)
     (IfOk-weaker c.run_plain-dones.result _ _ (λ dones made before is well.
-      subst (λ (given : List Done). Each (IsRightDone (before ++ packets)) given) (sym made) (right_now before packets old is well))
+    subst (λ (given : List Done). Each (IsRightDone (before ++ packets)) given) (sym made) (right_now before packets old is well))
     c.run_plain-dones.ensures.dones)
 
 pub returns-clause-beginning : goal.returns-clause-beginning
@@ -23,7 +23,7 @@ returns-clause-beginning c =
     let packets = on_shard c.self.inside.shard c.args.packets.now in
     rw (← c.self.view_is)
     (IfOk-weaker c.run_plain-dones.result _ _ (λ dones made before rest is well.
-      subst (λ (given : List Done). Each (IsRightDone ((before ++ packets) ++ rest)) given) (sym made) (right_in_part before packets rest old is well))
+    subst (λ (given : List Done). Each (IsRightDone ((before ++ packets) ++ rest)) given) (sym made) (right_in_part before packets rest old is well))
     c.run_plain-dones.ensures.dones)
 
 pub returns-clause-values : goal.returns-clause-values
