@@ -161,8 +161,8 @@ HasDropQuorum-more f notes more place shard q =
       view = q.view;
       learner = noted-more f place shard q.view notes more (learner_of q.view f) q.learner;
       quorum = quorum-more (2 * f + 1) f (noted_replicas f notes place shard q.view) (noted_replicas f (notes ++ more) place shard q.view)
-      (noted-below f place shard q.view notes) (noted-below f place shard q.view (notes ++ more))
-      (λ number h. noted-more f place shard q.view notes more (replica number) h) q.quorum;
+          (noted-below f place shard q.view notes) (noted-below f place shard q.view (notes ++ more))
+          (λ number h. noted-more f place shard q.view notes more (replica number) h) q.quorum;
     }
 
 pub IsDecided-more : (config : Config) (notes more : List DropNote) (place : Place) → IsDecided config notes place → IsDecided config (notes ++ more) place

@@ -53,7 +53,7 @@ impl DropCount {
         view: View,
     ) -> Result<(), NoMemory>
         ensures ok { OnOk result (self.new ≡ record self.old {
-            notes = note self.old.notes (record { place = place; shard = shard; replica = replica; view = view });
+          notes = note self.old.notes (record { place = place; shard = shard; replica = replica; view = view });
         }) }
         ensures err { OnErr result (self.new ≡ self.old) }
     {

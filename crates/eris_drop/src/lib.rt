@@ -10,3 +10,6 @@ mod request;
 pub use drop_count::DropCount;
 pub use drop_note::DropNote;
 pub use request::{RequestAnswer, answer_request};
+
+#[cfg(test)]
+mod tests;

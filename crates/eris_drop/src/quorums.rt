@@ -60,11 +60,19 @@ fn count_noted(f: u8, notes: &[DropNote], place: Place, shard: ShardId, view: Vi
 }
 
 /// Whether a replica of the shard noted the place in the view, and no later note says so.
-fn is_last(f: u8, later: &[DropNote], place: Place, shard: ShardId, view: View, note: &DropNote) -> bool
+fn is_last(
+    f: u8,
+    later: &[DropNote],
+    place: Place,
+    shard: ShardId,
+    view: View,
+    note: &DropNote,
+) -> bool
     ensures { result ≡ (is_noted_in f place shard view note.now
         && not (has_replica (noted_replicas f later.now place shard view) note.now.replica)) }
 {
-    is_noted_in(f, place, shard, view, note) && !has_noted(f, later, place, shard, view, note.replica)
+    is_noted_in(f, place, shard, view, note)
+        && !has_noted(f, later, place, shard, view, note.replica)
 }
 
 /// Whether this replica of the shard noted the place in the view.

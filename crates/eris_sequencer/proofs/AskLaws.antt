@@ -54,8 +54,16 @@ module _ (config : Config) (stampings : List Stamping) (epoch : Epoch) where
   by_full asker id body stamping in_place found true e = inl refl
   by_full asker id body stamping in_place found false e =
       inr (record {
-        asker = asker; id = id; body = body; stamping = stamping;
-        is_ask = refl; in_place = in_place; found = found; free = e; changes = refl; sent = refl;
+        asker = asker;
+        id = id;
+        body = body;
+        stamping = stamping;
+        is_ask = refl;
+        in_place = in_place;
+        found = found;
+        free = e;
+        changes = refl;
+        sent = refl;
       })
 
   by_found : (asker : ClientId) (id : TxnId) (body : Body) → is_in_place config asker id body ≡ true → (found : Option Stamping) → slice_get stampings epoch.0 ≡ found

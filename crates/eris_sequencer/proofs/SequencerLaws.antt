@@ -156,7 +156,7 @@ AreStampings-replaced config stampings facts more =
       some = omega (arith, facts.some, length-append stampings (new_stamping config (record { 0 = length stampings }) ∷ []));
       few = omega (arith, facts.some, more, length-append stampings (new_stamping config (record { 0 = length stampings }) ∷ []));
       each = are_from-append config.shards 0 stampings _ facts.each
-      (subst (λ n. is_sequencer config.shards n (new_stamping config (record { 0 = length stampings })).sequencer ≡ true) (omega arith) (is_sequencer-new config (record { 0 = length stampings })));
+          (subst (λ n. is_sequencer config.shards n (new_stamping config (record { 0 = length stampings })).sequencer ≡ true) (omega arith) (is_sequencer-new config (record { 0 = length stampings })));
     }
 
 pub AreStampings-asked : (config : Config) (stampings : List Stamping) (epoch : Epoch) (message : Message) → AreStampings config stampings → AreStampings config (ask config stampings epoch message).stampings
@@ -174,7 +174,7 @@ AreStampings-asked config stampings epoch message facts = by_cases (ask-cases co
           some = omega (arith, facts.some, length-set stampings epoch.0 changed);
           few = omega (arith, facts.few, length-set stampings epoch.0 changed);
           each = are_from-set config.shards 0 stampings epoch.0 changed facts.each
-          (is_sequencer-stamped config.shards (0 + epoch.0) stamped.stamping stamped.asker stamped.id stamped.body was stamped.free);
+              (is_sequencer-stamped config.shards (0 + epoch.0) stamped.stamping stamped.asker stamped.id stamped.body was stamped.free);
         })
 
 -- ---- what an ask adds

@@ -30,7 +30,9 @@ pub fn take_message(
     ensures adds { OnOk result (AddsAtMostOne stampings.old.items stampings.new.items epoch) }
 {
     match message {
-        Message::Ask { asker, id, body } => take_ask(alloc, config, stampings, epoch, asker, id, body),
+        Message::Ask { asker, id, body } => take_ask(
+            alloc, config, stampings, epoch, asker, id, body,
+        ),
         _ => Ok(Row::new(alloc)),
     }
 }

@@ -14,11 +14,7 @@ pub fn counter_of(counters: &[u32], shard: ShardId) -> u32
     ensures { result ≡ counter_of counters.now shard }
 {
     let at = shard.0 as usize;
-    if at < counters.len() {
-        counters[at]
-    } else {
-        0
-    }
+    if at < counters.len() { counters[at] } else { 0 }
 }
 
 /// The stamp that gives each of the ascending shards its next number. `Full` exactly where the counter of one

@@ -13,3 +13,6 @@ mod stamping;
 pub use sequencer::Sequencer;
 pub use sequencers::Sequencers;
 pub use stamp_fault::StampFault;
+
+#[cfg(test)]
+mod tests;

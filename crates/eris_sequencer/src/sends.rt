@@ -47,7 +47,12 @@ fn send_to(
     ensures { OnOk result (sends.new ≡ sends.old ++ sends_to f packet.now shard) }
 {
     for replica in 0..2 * f + 1 {
-        send_one(alloc, sends, packet, Node::Replica(shard, ReplicaId(replica)))?;
+        send_one(
+            alloc,
+            sends,
+            packet,
+            Node::Replica(shard, ReplicaId(replica)),
+        )?;
     }
     Ok(())
 }

@@ -93,7 +93,8 @@ impl Sequencers {
     {
         self.spent = true;
         let next = Epoch(self.stampings.len() as u32);
-        self.stampings.push(first_of(self.alloc, &self.config, next))?;
+        self.stampings
+            .push(first_of(self.alloc, &self.config, next))?;
         self.spent = false;
         Ok(())
     }
@@ -115,7 +116,13 @@ impl Sequencers {
         ensures err { OnErr result (self.new.spent ≡ true) }
     {
         self.spent = true;
-        let sends = take_message(self.alloc, &self.config, &mut self.stampings, epoch, message)?;
+        let sends = take_message(
+            self.alloc,
+            &self.config,
+            &mut self.stampings,
+            epoch,
+            message,
+        )?;
         self.spent = false;
         Ok(sends)
     }
