@@ -136,7 +136,7 @@ lines_before first second (packet ∷ packets) seen decided behind new = by_pack
         cond-false _ _ _ (same_id-apart first packet.id apart)
         ∙ rest (λ front after other split is other_own. past_other apart front (behind (packet ∷ front) after other (ap (λ l. packet ∷ l) split) is other_own)) (or_from _ _ apart new) later
 
-outcome-own : (body : Body) (here : Bool) (later : Option Answer) → is_conclusory body ≡ false → outcome_by body here later ≡ later
+pub outcome-own : (body : Body) (here : Bool) (later : Option Answer) → is_conclusory body ≡ false → outcome_by body here later ≡ later
 outcome-own (Independent ops) here later own = refl
 outcome-own (Prelim locks) here later own = refl
 outcome-own (Commit keys writes) here later own = cc
