@@ -1,5 +1,5 @@
 -- No premise of the evidence follows from the others, and none can be dropped: for each there is a history that has
--- all others by an order and isn't serial.
+-- all others by an order and isn't serial. Nothing rests on this file.
 use Rattle.std.proofs.Common.{◌≡◌, ℕ, Bool, true, false, cond, ◌||◌, ◌==◌, is_some, option_map, Some, None, List, [], ◌∷◌, refl, subst, ◌⊎◌, inl, inr}
 use Rattle.std.proofs.lemmas.Bool.{both_ways, eqb-true, or_cases}
 use Rattle.std.specs.Prelude.{IsTrue}

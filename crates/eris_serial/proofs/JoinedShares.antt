@@ -1,5 +1,5 @@
--- An answer joined from the shards' answers has one item for each place, and each shard's share of it is what the shard
--- gave. So an answer over many shards is said by its shares.
+-- An answer joined from the shards' answers has one item for each place, and each shard's share of it is what the
+-- shard gave. So an answer over many shards is said by its shares. Used by a protocol whose clients join answers.
 use Rattle.std.proofs.Common.{◌≡◌, ℕ, Option, length, arith, Bool, true, false, cond, List, [], ◌∷◌, refl, ap, sym, ◌∙◌, subst, ◌⊎◌, inl, inr}
 use Rattle.std.proofs.lemmas.Bool.{cases_Bool, cond-true, cond-false, eqb-true, eq-eqb}
 use Rattle.std.specs.List.{filter}

@@ -1,5 +1,5 @@
 -- Why each premise of the evidence stands there: orders and histories where one of them fails, and the history isn't
--- serial. What the shards say over each order is computed.
+-- serial. What the shards say over each order is computed. `Independence` uses them.
 use Rattle.std.specs.Prelude.{◌≡◌, None, List, [], ◌∷◌, refl}
 use Rattle.eris_base.specs.declared.ids.Phase.{Phase}
 use Rattle.eris_base.specs.TxnIds.{same_id}

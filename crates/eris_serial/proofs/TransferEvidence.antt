@@ -1,5 +1,5 @@
 -- There is evidence for the transfer's history by its order: what the protocol owes can be had, also with a read that
--- waits behind locks, and with an abort told of a transaction that isn't in the order.
+-- waits behind locks, and with an abort told of a transaction that isn't in the order. Nothing rests on it.
 use Rattle.std.proofs.Common.{◌≡◌, ℕ, Bool, true, false, cond, ◌||◌, ◌==◌, is_some, option_map, Option, Some, None, List, [], ◌∷◌, refl, subst, ◌⊎◌, inl, inr}
 use Rattle.std.proofs.lemmas.Bool.{both_ways, eqb-true, or_cases}
 use Rattle.eris_base.specs.declared.ids.Phase.{Phase}

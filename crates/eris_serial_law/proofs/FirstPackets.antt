@@ -1,5 +1,6 @@
--- The lines of an order in plain words: there is one for each id whose own packet stands in the order, in the order of
--- the first own packets, and its outcome is what that packet and the first conclusory packet say.
+-- The lines of an order in plain words: there is one for each id whose own packet stands in the order, in the order
+-- of the first own packets, and its outcome is what that packet and the first conclusory packet say. Used by nothing
+-- here: it says what the definition comes to.
 use Rattle.std.proofs.Common.{◌≡◌, Bool, true, false, ◌||◌, Option, Some, is_some, List, [], ◌∷◌, ◌++◌, refl, ap, sym, ◌∙◌, ◌⊎◌, inl, inr}
 use Rattle.std.proofs.lemmas.Bool.{both_ways, cases_Bool, cond-false, cond-true, or_cases, or_from}
 use Rattle.std.specs.Prelude.{IsFalse, ⊤}

@@ -1,5 +1,6 @@
 -- What the lines of an order say: no id has two; each transaction whose own packet stands in the order has one; they
--- stand in the order of first packets; and a line has the outcome that the id's first conclusory packet says.
+-- stand in the order of first packets; and a line has the outcome that the id's first conclusory packet says. Used by
+-- the rules.
 use Rattle.std.proofs.Common.{◌≡◌, Bool, true, false, cond, ◌||◌, Option, Some, None, List, [], ◌∷◌, ◌++◌, refl, ap, sym, ◌∙◌, subst, ◌⊎◌, inl, inr}
 use Rattle.std.proofs.lemmas.Bool.{both_ways, cases_Bool, cond-true, cond-false, or_cases, or_from, or_left, or_parts, or_right}
 use Rattle.std.proofs.lemmas.List.Folds.{list_any-append}
