@@ -1,4 +1,5 @@
--- What was counted over a list of packets stands in it: the own packet of an id that was read or answered.
+-- What was counted over a list of packets stands in it: the own packet of an id that was read or answered. Used for
+-- rule 2, and by a protocol to show that what was answered stands in the order by then.
 use Rattle.std.proofs.Common.{◌≡◌, ℕ, Bool, true, false, Option, List, [], ◌∷◌, map, refl, ap, sym, ◌∙◌, inl, inr}
 use Rattle.std.proofs.lemmas.Bool.{eq-eqb, or_left}
 use Rattle.eris_base.specs.declared.ids.Phase.{Phase}

@@ -1,8 +1,21 @@
--- An answer joined from the shards' answers has one item for each place, and each shard's share of it is what the shard
--- gave. So an answer over many shards is said by its shares.
-use Rattle.std.proofs.Common.{◌≡◌, Bool, true, false, cond, List, [], ◌∷◌, refl, ap, sym, ◌∙◌, subst, ◌⊎◌, inl, inr}
+-- An answer joined from the shards' answers has one item for each place, and each shard's share of it is what the
+-- shard gave. So an answer over many shards is said by its shares. Used by a protocol whose clients join answers.
+use Rattle.std.proofs.Common.{◌≡◌, ℕ, Option, length, arith, Bool, true, false, cond, List, [], ◌∷◌, refl, ap, sym, ◌∙◌, subst, ◌⊎◌, inl, inr}
 use Rattle.std.proofs.lemmas.Bool.{cases_Bool, cond-true, cond-false, eqb-true, eq-eqb}
 use Rattle.std.specs.List.{filter}
+use Rattle.std.specs.Prelude.{IsTrue}
+use Rattle.eris_base.specs.declared.ids.Phase.{Phase}
+use Rattle.eris_base.specs.declared.ids.TxnId.{TxnId}
+use Rattle.eris_txn.specs.declared.answer.Answer.{Answer}
+use Rattle.eris_txn.specs.declared.op.Op.{Op}
+use Rattle.eris_txn.specs.declared.op.OpAnswer.{OpAnswer}
+use Rattle.eris_txn.specs.declared.packet.Packet.{Packet}
+use Rattle.eris_txn.specs.declared.txn.Txn.{Txn}
+use Rattle.eris_txn.specs.declared.txn.Txn.TheVariants.{Whole, General}
+use Rattle.eris_txn.specs.Operations.{key_of}
+use Rattle.eris_txn.specs.PlanValues.{PlanValue}
+use Rattle.eris_serial.specs.Evidence.{ReadEvidence, SaidOn, WholeEvidence}
+use Rattle.eris_serial.specs.Transactions.{takes_part}
 use Rattle.eris_base.specs.declared.ids.ShardId.{ShardId}
 use Rattle.eris_txn.specs.declared.key.Key.{Key}
 use Rattle.eris_locks.specs.Shards.{is_on}
@@ -59,3 +72,43 @@ module _ {X : Type 0} (A : Type 0) (key_in : X → Key) where
               → share (on shard) (place ∷ places) (item ∷ joined key_in places (with_list own rest given)) ≡ given shard
           share_is shard (inl same) = cond-true _ _ _ same ∙ (ap (λ l. item ∷ l) (rest_is shard ∙ cond-true _ _ _ same) ∙ sym (at_own shard same))
           share_is shard (inr apart) = cond-false _ _ _ apart ∙ (rest_is shard ∙ cond-false _ _ _ apart)
+
+-- as many items as places are one for each
+one_each_by_length : {X : Type 0} (A : Type 0) (places : List X) (items : List A) → length items ≡ length places → OneForEach places items
+one_each_by_length A [] [] same = tt
+one_each_by_length A [] (item ∷ items) same = absurd (omega (arith, same))
+one_each_by_length A (place ∷ places) [] same = absurd (omega (arith, same))
+one_each_by_length A (place ∷ places) (item ∷ items) same = one_each_by_length A places items (omega (arith, same))
+
+pub gave_by_length : {X : Type 0} (A : Type 0) (key_in : X → Key) (places : List X) (given : ShardId → List A)
+    → ((shard : ShardId) → length (given shard) ≡ length (filter (λ place. is_on shard (key_in place)) places)) → GaveEach key_in places given
+gave_by_length A key_in places given same shard = one_each_by_length A (filter (λ place. is_on shard (key_in place)) places) (given shard) (same shard)
+
+-- A JOINED ANSWER IS EVIDENCE where each shard that takes part said what it gave
+pub whole_joined : (txn : TxnId → Txn) (id : TxnId) (operations : List Op) (given : ShardId → List OpAnswer) (packets : List Packet) → txn id ≡ Whole operations → (operations ≡ [] → ⊥)
+    → GaveEach key_of operations given → ((shard : ShardId) → IsTrue (takes_part shard (txn id)) → SaidOn shard id Phase.Whole (Answer.Ops (given shard)) packets)
+    → WholeEvidence txn id (Answer.Ops (joined key_of operations given)) packets
+whole_joined txn id operations given packets is some gave said =
+    let whole = joined_shares OpAnswer key_of operations given gave in
+    record {
+      operations = operations;
+      answers = joined key_of operations given;
+      is = is;
+      some_operation = some;
+      answer_is = refl;
+      each = whole.each;
+      said = λ shard part. subst (λ (items : List OpAnswer). SaidOn shard id Phase.Whole (Answer.Ops items) packets) (sym (whole.shares shard)) (said shard part);
+    }
+
+-- and so are joined values
+pub read_joined : (txn : TxnId → Txn) (id : TxnId) (plan : PlanValue) (given : ShardId → List (Option ℕ)) (packets : List Packet) → txn id ≡ General plan
+    → GaveEach (λ key. key) plan.keys given → ((shard : ShardId) → IsTrue (takes_part shard (txn id)) → SaidOn shard id Phase.Prelim (Answer.Values (given shard)) packets)
+    → ReadEvidence txn id (joined (λ key. key) plan.keys given) packets
+read_joined txn id plan given packets is gave said =
+    let whole = joined_shares (Option ℕ) (λ key. key) plan.keys given gave in
+    record {
+      plan = plan;
+      is = is;
+      each = whole.each;
+      said = λ shard part. subst (λ (items : List (Option ℕ)). SaidOn shard id Phase.Prelim (Answer.Values items) packets) (sym (whole.shares shard)) (said shard part);
+    }

@@ -6,3 +6,4 @@ pub mod StampedLater
 pub mod Transfer
 pub mod TransferEvidence
 pub mod Premises
+pub mod Independence

@@ -1,5 +1,5 @@
 -- Why each premise of the evidence stands there: orders and histories where one of them fails, and the history isn't
--- serial. What the shards say over each order is computed.
+-- serial. What the shards say over each order is computed. `Independence` uses them.
 use Rattle.std.specs.Prelude.{◌≡◌, None, List, [], ◌∷◌, refl}
 use Rattle.eris_base.specs.declared.ids.Phase.{Phase}
 use Rattle.eris_base.specs.TxnIds.{same_id}
@@ -216,6 +216,14 @@ turned_gives = refl
 pub turned_is_not_serial : IsSerial turned_history (lines turned) → ⊥
 unfolding same_key same_id
 turned_is_not_serial serial = cc (serial.follows.1.1.0.1.0 refl refl)
+
+-- A PACKET'S ID WAS SUBMITTED. A packet of an id that never was, with nothing to do and on no shard:
+abbrev pub unsubmitted : List Packet
+unsubmitted = own (record { epoch = record { 0 = 0 }; places = [] }) (txn 0 1) (Independent []) ∷ []
+
+pub unsubmitted_is_not_serial : IsSerial [] (lines unsubmitted) → ⊥
+unfolding same_id
+unsubmitted_is_not_serial serial = cc serial.order_lines.0.submitted
 
 -- A SUBMITTED TRANSACTION CAN BE RUN. A plan with no key has read, where no shard said so and nothing was stamped:
 abbrev pub no_key : PlanValue

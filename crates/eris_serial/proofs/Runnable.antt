@@ -1,5 +1,5 @@
 -- A submitted transaction can be run, where each submit's can, as it can where it has its size; and a preliminary
--- speaks of its plan's keys.
+-- speaks of its plan's keys. Used where evidence is made and where it is read.
 use Rattle.std.proofs.Common.{◌≡◌, Bool, true, false, cond, Option, Some, None, is_some, unwrap_or, List, [], ◌∷◌, refl, ap, subst, inl, inr, ◌≤◌, is_none, length, map, arith}
 use Rattle.std.proofs.lemmas.Bool.{both_ways}
 use Rattle.std.specs.Prelude.{IsTrue}

@@ -1,5 +1,6 @@
 -- What a replica's store said over its log, the shard said over the order, where the log begins the order's packets
--- on that shard. So a protocol that shows its counted logs to be such beginnings has shown what was said.
+-- on that shard. So a protocol that shows its counted logs to be such beginnings has shown what was said. Used by a
+-- protocol.
 use Rattle.std.proofs.Common.{◌≡◌, Bool, true, false, cond, List, [], ◌∷◌, ◌++◌, map, refl, ap, sym, ◌∙◌, subst, inl, inr}
 use Rattle.eris_base.specs.declared.ids.Phase.{Phase}
 use Rattle.eris_base.specs.declared.ids.ShardId.{ShardId}

@@ -1,6 +1,6 @@
--- From the order of stamping to the rule of real time: where what was answered before a submit stands in front of what
--- is submitted, the order's lines stand so too. Two forms: a beginning of the order that has the one and not the
--- other, and a sorted order.
+-- From the order of stamping to the rule of real time: where what was answered before a submit stands in front of
+-- what is submitted, the order's lines stand so too. Two forms: a beginning of the order that has the one and not the
+-- other, and a sorted order. Used by a protocol.
 use Rattle.std.proofs.Common.{◌≡◌, Bool, false, List, [], ◌∷◌, ◌++◌, refl, ap, sym, ◌∙◌, subst, append_assoc, ◌⊎◌, inl, inr}
 use Rattle.std.specs.Prelude.{IsTrue}
 use Rattle.eris_base.specs.declared.ids.TxnId.{TxnId}

@@ -1,5 +1,5 @@
 -- A transfer over two shards, with a read of both keys behind its locks, and orders with another's abort: lines,
--- results and shards' answers, computed.
+-- results and shards' answers, computed. `TransferEvidence` uses it.
 use Rattle.std.specs.Prelude.{◌≡◌, ℕ, true, false, Some, None, List, [], ◌∷◌, refl}
 use Rattle.eris_base.specs.declared.ids.ClientId.{ClientId}
 use Rattle.eris_base.specs.declared.ids.Phase.{Phase}

@@ -1,5 +1,5 @@
 -- There is evidence for the transfer's history by its order: what the protocol owes can be had, also with a read that
--- waits behind locks, and with an abort told of a transaction that isn't in the order.
+-- waits behind locks, and with an abort told of a transaction that isn't in the order. Nothing rests on it.
 use Rattle.std.proofs.Common.{◌≡◌, ℕ, Bool, true, false, cond, ◌||◌, ◌==◌, is_some, option_map, Option, Some, None, List, [], ◌∷◌, refl, subst, ◌⊎◌, inl, inr}
 use Rattle.std.proofs.lemmas.Bool.{both_ways, eqb-true, or_cases}
 use Rattle.eris_base.specs.declared.ids.Phase.{Phase}
@@ -25,7 +25,7 @@ use Rattle.eris_serial.proofs.StampedLater.{behind_old}
 use Rattle.eris_serial.proofs.Transfer.{a, asked, b, client, filled, history, locked, look, on_both, on_second, order, own, shard, transfer, txn}
 
 -- what holds of both shards holds of each shard that is one of them
-two_shards : (P : ShardId → Type 0) → P (shard 0) → P (shard 1) → (s : ShardId) → ((0 == s.0) || ((1 == s.0) || false)) ≡ true → P s
+pub two_shards : (P : ShardId → Type 0) → P (shard 0) → P (shard 1) → (s : ShardId) → ((0 == s.0) || ((1 == s.0) || false)) ≡ true → P s
 two_shards P first second s one = by_first (or_cases (0 == s.0) ((1 == s.0) || false) one)
   where
     by_second : (((1 == s.0) ≡ true) ⊎ (false ≡ true)) → P s
@@ -37,14 +37,14 @@ two_shards P first second s one = by_first (or_cases (0 == s.0) ((1 == s.0) || f
     by_first (inr is) = by_second (or_cases (1 == s.0) false is)
 
 -- the shares of an answer and of values
-abbrev of_ops : List Op → List OpAnswer → ShardId → Answer
+abbrev pub of_ops : List Op → List OpAnswer → ShardId → Answer
 of_ops ops answers s = Answer.Ops (share (λ op. is_on s (key_of op)) ops answers)
 
-abbrev of_values : List Key → List (Option ℕ) → ShardId → Answer
+abbrev pub of_values : List Key → List (Option ℕ) → ShardId → Answer
 of_values keys values s = Answer.Values (share (is_on s) keys values)
 
 -- a stamp of both shards names these, and a stamp of one that one
-both_named : (first second : ℕ) (s : ShardId) → is_some (number_in ((shard 0, first) ∷ (shard 1, second) ∷ []) s) ≡ ((0 == s.0) || ((1 == s.0) || false))
+pub both_named : (first second : ℕ) (s : ShardId) → is_some (number_in ((shard 0, first) ∷ (shard 1, second) ∷ []) s) ≡ ((0 == s.0) || ((1 == s.0) || false))
 both_named first second s = by_tests (0 == s.0) (1 == s.0)
   where
     by_tests : (t u : Bool) → is_some (option_map (λ (place : ShardId × ℕ). place.1) (cond t (Some (shard 0, first)) (cond u (Some (shard 1, second)) None))) ≡ (t || (u || false))

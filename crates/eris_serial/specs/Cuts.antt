@@ -6,7 +6,7 @@ use Rattle.eris_locks.specs.declared.shard_packet.ShardPacket.{ShardPacket}
 use Rattle.eris_locks.specs.Shards.{on_shard}
 use Rattle.eris_serial.specs.Evidence.{IsIn}
 
--- A CLOSED CUT: its packets are of the order, and on each shard it is a beginning of the order. A transaction
+-- A CLOSED CUT: its packets are of the order, and on each shard it is a beginning of the order. A packet
 -- of many shards stands in it on all of them or on none.
 pub record IsClosedCut (order part : List Packet) : Type 0 where
   pub inside : (packet : Packet) → IsIn packet part → IsIn packet order

@@ -1,4 +1,4 @@
-ghost use Rattle.std.specs.Prelude.{◌≡◌, ℕ, Bool, List, Option, [], ◌++◌, map, IsTrue};
+ghost use Rattle.std.specs.Prelude.{◌≡◌, ℕ, Bool, List, Option, [], ◌++◌, map, filter, length, IsTrue};
 ghost use Rattle.eris_base.specs.declared.ids.Phase.{Phase};
 ghost use Rattle.eris_base.specs.declared.ids.ShardId.{ShardId};
 ghost use Rattle.eris_base.specs.declared.ids.TxnId.{TxnId};
@@ -11,7 +11,7 @@ ghost use Rattle.eris_txn.specs.declared.op.Op.{Op};
 ghost use Rattle.eris_txn.specs.declared.op.OpAnswer.{OpAnswer};
 ghost use Rattle.eris_txn.specs.declared.packet.Packet.{Packet};
 ghost use Rattle.eris_txn.specs.declared.txn.Txn.{Txn};
-ghost use Rattle.eris_txn.specs.declared.txn.Txn.TheVariants.{General};
+ghost use Rattle.eris_txn.specs.declared.txn.Txn.TheVariants.{General, Whole};
 ghost use Rattle.eris_txn.specs.Bodies.{keys_of};
 ghost use Rattle.eris_txn.specs.Operations.{key_of};
 ghost use Rattle.eris_txn.specs.PlanValues.{PlanValue};
@@ -20,14 +20,14 @@ ghost use Rattle.eris_txn.specs.Sizes.{event_has_size};
 ghost use Rattle.eris_locks.specs.declared.shard_packet.ShardPacket.{ShardPacket};
 ghost use Rattle.eris_locks.specs.Law.{Said};
 ghost use Rattle.eris_locks.specs.LockTable.{run_dones};
-ghost use Rattle.eris_locks.specs.Shards.{cut, on_shard};
+ghost use Rattle.eris_locks.specs.Shards.{cut, is_on, on_shard};
 ghost use Rattle.eris_locks.specs.States.{empty};
 ghost use Rattle.eris_audit.specs.Histories.{txn_of};
 ghost use Rattle.eris_order.specs.Orders.{packets_on};
 ghost use Rattle.eris_serial.specs.Evidence.{HasOwn, IsIn, ReadEvidence, RefusalEvidence, SaidOn, StandsBehind, SubmitsWell, SubmittedLater, WholeEvidence};
 ghost use Rattle.eris_serial.specs.Joining.{GaveEach, IsJoined, joined};
 ghost use Rattle.eris_serial.specs.Times.{EachAnswerFirst, IsOneWay, IsOrderedBy, IsOwn};
-ghost use Rattle.eris_serial.specs.Transactions.{keys_in};
+ghost use Rattle.eris_serial.specs.Transactions.{keys_in, takes_part};
 
 /// From a log to what was said: where a log begins the order's packets on a shard, what a store says over
 /// the log, the shard says over the order. The log may be one of cut packets or of whole ones, since the
@@ -44,6 +44,15 @@ pub fn logs_say()
 pub fn shards_join()
     ensures operations { (operations : List Op) (given : ShardId → List OpAnswer) → GaveEach key_of operations given → IsJoined key_of operations given (joined key_of operations given) }
     ensures keys { (keys : List Key) (given : ShardId → List (Option ℕ)) → GaveEach (λ key. key) keys given → IsJoined (λ key. key) keys given (joined (λ key. key) keys given) }
+    ensures operations_given { (operations : List Op) (given : ShardId → List OpAnswer) → ((shard : ShardId) → length (given shard) ≡ length (filter (λ op. is_on shard (key_of op)) operations)) → GaveEach key_of operations given }
+    ensures keys_given { (keys : List Key) (given : ShardId → List (Option ℕ)) → ((shard : ShardId) → length (given shard) ≡ length (filter (λ key. is_on shard key) keys)) → GaveEach (λ key. key) keys given }
+{}
+
+/// A joined answer is evidence where each shard that takes part said what it gave. The call does nothing; its
+/// contract is the law.
+pub fn joined_is_evidence()
+    ensures whole { (txn : TxnId → Txn) (id : TxnId) (operations : List Op) (given : ShardId → List OpAnswer) (packets : List Packet) → txn id ≡ Whole operations → (operations ≡ [] → ⊥) → GaveEach key_of operations given → ((shard : ShardId) → IsTrue (takes_part shard (txn id)) → SaidOn shard id Phase.Whole (Answer.Ops (given shard)) packets) → WholeEvidence txn id (Answer.Ops (joined key_of operations given)) packets }
+    ensures read { (txn : TxnId → Txn) (id : TxnId) (plan : PlanValue) (given : ShardId → List (Option ℕ)) (packets : List Packet) → txn id ≡ General plan → GaveEach (λ key. key) plan.keys given → ((shard : ShardId) → IsTrue (takes_part shard (txn id)) → SaidOn shard id Phase.Prelim (Answer.Values (given shard)) packets) → ReadEvidence txn id (joined (λ key. key) plan.keys given) packets }
 {}
 
 /// What was counted over a list stands in it: the own packet of an id whose values were read, which was

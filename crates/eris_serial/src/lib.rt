@@ -5,4 +5,6 @@
 
 mod bridges;
 
-pub use bridges::{counted_stands, logs_say, shards_join, sizes_suffice, stamped_later};
+pub use bridges::{
+    counted_stands, joined_is_evidence, logs_say, shards_join, sizes_suffice, stamped_later,
+};

@@ -1,8 +1,8 @@
--- What operations, writes and settings do at the keys of one shard. Two maps of values that agree there still
--- agree there after each transaction, where the second took only the shard's share of it.
+-- What operations, writes and settings do at the keys of one shard. Two maps of values that agree there still agree
+-- there after each transaction, where the second took only the shard's share of it. Used shard by shard.
 use Rattle.std.proofs.Common.{◌≡◌, ℕ, Bool, true, false, cond, Option, Some, List, [], ◌∷◌, map, refl, ap, sym, ◌∙◌, ◌⊎◌, inl, inr}
 use Rattle.std.proofs.lemmas.Bool.{or_parts, or_cases, and_parts, cases_Bool, cond-false, both_ways}
-use Rattle.std.specs.List.{filter, list_any, list_all}
+use Rattle.std.specs.List.{filter, list_all}
 use Rattle.eris_base.specs.declared.ids.ShardId.{ShardId}
 use Rattle.eris_txn.specs.declared.key.Key.{Key}
 use Rattle.eris_txn.specs.declared.lock.Lock.{Lock}

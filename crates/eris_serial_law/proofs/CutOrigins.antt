@@ -1,6 +1,7 @@
--- What an order's packets come from, those of a closed cut come from too. The values that a Commit of the cut was made
--- of were said over the whole order; on each shard the cut is a beginning with that Commit in it, and values said over
--- a whole list are said over a beginning that has a conclusory packet of the id.
+-- What an order's packets come from, those of a closed cut come from too. The values that a Commit of the cut was
+-- made of were said over the whole order; on each shard the cut is a beginning with that Commit in it, and values
+-- said over a whole list are said over a beginning that has a conclusory packet of the id. Used by nothing here: it
+-- is for those who keep a closed cut.
 use Rattle.std.proofs.Common.{◌≡◌, Bool, true, false, List, [], ◌∷◌, refl, ap, ◌∙◌, subst, ◌⊎◌, inl, inr}
 use Rattle.std.proofs.lemmas.Bool.{both_ways}
 use Rattle.eris_base.specs.declared.ids.Phase.{Phase}

@@ -7,5 +7,6 @@ pub mod OneMap
 pub mod OrderOrigins
 pub mod WellFormedOrder
 pub mod OrderLines
+pub mod FirstPackets
 pub mod Rules
 pub mod CutOrigins

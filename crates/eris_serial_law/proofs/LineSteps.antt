@@ -1,4 +1,5 @@
--- The lines of an order, by the tests of its first packet. No other file opens the lines.
+-- The lines of an order, by the tests of its first packet. No other file opens the lines. All that is said of lines
+-- uses it.
 use Rattle.std.proofs.Common.{◌≡◌, Bool, true, false, List, ◌∷◌, refl}
 use Rattle.eris_base.specs.declared.ids.TxnId.{TxnId}
 use Rattle.eris_base.specs.TxnIds.{is_among}

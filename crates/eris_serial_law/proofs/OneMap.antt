@@ -1,5 +1,5 @@
 -- One map: along the lines of an order the serial run has the results that the shards answer, the guards of each
--- commit hold, and its map at the end is each shard's map at that shard's keys.
+-- commit hold, and its map at the end is each shard's map at that shard's keys. Used by the rules.
 use Rattle.std.proofs.Common.{◌≡◌, Bool, true, false, cond, Option, Some, List, [], ◌∷◌, ◌++◌, refl, ap, sym, ◌∙◌, subst}
 use Rattle.std.proofs.lemmas.Bool.{both_ways}
 use Rattle.eris_base.specs.declared.ids.ShardId.{ShardId}

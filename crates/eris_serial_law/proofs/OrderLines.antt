@@ -1,5 +1,6 @@
 -- What the lines of an order say: no id has two; each transaction whose own packet stands in the order has one; they
--- stand in the order of first packets; and a line has the outcome that the id's first conclusory packet says.
+-- stand in the order of first packets; and a line has the outcome that the id's first conclusory packet says. Used by
+-- the rules.
 use Rattle.std.proofs.Common.{◌≡◌, Bool, true, false, cond, ◌||◌, Option, Some, None, List, [], ◌∷◌, ◌++◌, refl, ap, sym, ◌∙◌, subst, ◌⊎◌, inl, inr}
 use Rattle.std.proofs.lemmas.Bool.{both_ways, cases_Bool, cond-true, cond-false, or_cases, or_from, or_left, or_parts, or_right}
 use Rattle.std.proofs.lemmas.List.Folds.{list_any-append}
@@ -136,7 +137,7 @@ lines_before first second (packet ∷ packets) seen decided behind new = by_pack
         cond-false _ _ _ (same_id-apart first packet.id apart)
         ∙ rest (λ front after other split is other_own. past_other apart front (behind (packet ∷ front) after other (ap (λ l. packet ∷ l) split) is other_own)) (or_from _ _ apart new) later
 
-outcome-own : (body : Body) (here : Bool) (later : Option Answer) → is_conclusory body ≡ false → outcome_by body here later ≡ later
+pub outcome-own : (body : Body) (here : Bool) (later : Option Answer) → is_conclusory body ≡ false → outcome_by body here later ≡ later
 outcome-own (Independent ops) here later own = refl
 outcome-own (Prelim locks) here later own = refl
 outcome-own (Commit keys writes) here later own = cc

@@ -1,4 +1,5 @@
--- What evidence says of the order alone: where its packets come from, and that their transactions can be run.
+-- What evidence says of the order alone: where its packets come from, and that their transactions can be run. Used by
+-- the rules, which then need the order's origins alone.
 use Rattle.std.proofs.Common.{◌≡◌, List, ap, sym, ◌∙◌}
 use Rattle.std.specs.Prelude.{IsTrue}
 use Rattle.eris_base.specs.declared.ids.TxnId.{TxnId}

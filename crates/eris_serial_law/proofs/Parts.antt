@@ -1,5 +1,5 @@
 -- A list with one item for each place is what its shards' shares say: two such lists with the same share on each
--- shard are equal.
+-- shard are equal. Used where shards are joined: for a Commit, and for what was read or answered.
 use Rattle.std.proofs.Common.{◌≡◌, Bool, true, false, cond, List, [], ◌∷◌, map, refl, sym, ◌∙◌}
 use Rattle.std.proofs.lemmas.Bool.{or_left, or_right, cond-true, eq-eqb}
 use Rattle.eris_base.specs.declared.ids.ShardId.{ShardId}

@@ -1,7 +1,7 @@
 -- Shard by shard: the serial run over an order's lines, cut to a shard, is the plain run of that shard. Along the
 -- order, the serial map agrees at each shard's keys with that shard's map. The one step that joins shards is a
--- preliminary that commits: its writes are made of values which every shard that takes part has answered, and so
--- they are the plan's writes over the serial map.
+-- preliminary that commits: its writes are made of values which every shard that takes part has answered, and so they
+-- are the plan's writes over the serial map. Used by `OneMap`.
 use Rattle.std.proofs.Common.{◌≡◌, ℕ, Bool, true, false, cond, ◌||◌, Option, List, [], ◌∷◌, map, refl, ap, sym, ◌∙◌, subst, map-id, inl, inr}
 use Rattle.std.proofs.lemmas.Bool.{both_ways, and_parts}
 use Rattle.std.specs.List.{filter, list_all}

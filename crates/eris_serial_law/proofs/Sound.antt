@@ -1,5 +1,5 @@
--- What a packet of the order is, where the shards' plain runs are known; and that an id's outcome and its writes on
--- a shard that takes part are those of the order.
+-- What a packet of the order is, where the shards' plain runs are known; and that an id's outcome and its writes on a
+-- shard that takes part are those of the order. Used shard by shard, and for outcomes.
 use Rattle.std.proofs.Common.{◌≡◌, ℕ, Bool, true, false, Option, Some, None, List, [], ◌∷◌, refl, ap, sym, ◌∙◌, subst, ◌⊎◌, inl, inr}
 use Rattle.std.proofs.lemmas.Bool.{cases_Bool, both_ways}
 use Rattle.std.specs.List.{filter}

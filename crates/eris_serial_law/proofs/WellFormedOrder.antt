@@ -1,6 +1,7 @@
 -- On each shard the packets of an order with these origins are a well-formed list for the lock table. The packets of
--- one id agree, since its transaction says what they are; and a Commit finds its preliminary holding, since the values
--- that it was made of were said somewhere in the list. Hence what a shard says is what its plain run answers.
+-- one id agree, since its transaction says what they are; and a Commit finds its preliminary holding, since the
+-- values that it was made of were said somewhere in the list. Hence what a shard says is what its plain run answers.
+-- Used by the rules, and for closed cuts.
 use Rattle.std.proofs.Common.{◌≡◌, ℕ, Bool, true, false, cond, Option, List, [], ◌∷◌, ◌++◌, refl, ap, sym, ◌∙◌, subst, append_assoc, append-nil, ◌⊎◌, inl, inr}
 use Rattle.std.proofs.lemmas.Bool.{and_parts, both_ways, or_cases, or_left, or_right}
 use Rattle.std.specs.List.{filter, list_all}

@@ -3,4 +3,4 @@
 
 mod law;
 
-pub use law::{evidence_makes_serial, origins_suffice};
+pub use law::{evidence_makes_serial, lines_follow_the_order, origins_suffice};
