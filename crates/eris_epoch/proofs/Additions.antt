@@ -1,5 +1,5 @@
 -- Packets put one by one among those that survive.
-use Rattle.std.proofs.Common.{◌≡◌, ◌≤◌, ◌<◌, ◌+◌, ℕ, zero, suc, Bool, true, false, not, ◌||◌, ◌==◌, cond, List, [], ◌∷◌, ◌++◌, length, get_or, take, drop, insert, Result, Ok, Err, OnOk, refl, ap, sym, ◌∙◌, subst, arith, append_assoc}
+use Rattle.std.proofs.Common.{◌≡◌, ◌≤◌, ◌<◌, ◌+◌, ℕ, zero, suc, Bool, true, false, not, ◌||◌, ◌==◌, cond, List, [], ◌∷◌, ◌++◌, length, get_or, take, drop, insert, Result, Ok, Err, OnOk, IfOk, refl, ap, sym, ◌∙◌, subst, arith, append_assoc}
 use Rattle.std.proofs.lemmas.Bool.{cond-true, cond-false}
 use Rattle.std.proofs.lemmas.Cmp.{nat_cmp_total, on_total, then_total, tied_itself, lists_total}
 use Rattle.std.proofs.lemmas.List.{append-nil, take_more}
@@ -171,7 +171,7 @@ unfolding held_of
 held_of-same epoch one same = cond-true _ (packets_of one.part.held) [] same
 
 -- ---- the same as each once, in order
-is_listed-by_places : (packets : List Packet) (packet : Packet) → is_listed (by_places packets) packet ≡ is_listed packets packet
+pub is_listed-by_places : (packets : List Packet) (packet : Packet) → is_listed (by_places packets) packet ≡ is_listed packets packet
 unfolding is_listed by_places
 is_listed-by_places packets packet = list_any-sorted places_of places_cmp (λ other. same_packet packet other) packets
 
@@ -247,3 +247,7 @@ InOrder-shard_log shard closed = InOrder-sorted (turn_on shard) turn_cmp-total (
 pub on_ok : {A E P Q : Type 0} (r : Result A E) → (P → Q) → OnOk r P → OnOk r Q
 on_ok (Ok a) f h = f h
 on_ok (Err e) f h = tt
+
+pub if_ok_from : {A E : Type 0} (r : Result A E) (value : A) (P : A → Type 0) → P value → IfOk r (λ made. made ≡ value) → IfOk r P
+if_ok_from (Ok made) value P holds is = subst P (sym is) holds
+if_ok_from (Err e) value P holds is = tt

@@ -24,7 +24,7 @@ not_false false h = refl
 
 module _ {X K : Type 0} (key : X → K) {cmp : K → K → Ordering} (o : IsTotalOrder cmp) where
   -- the second isn't above the third, so what is below the second is below the third
-  low_trans : (x a b : K) → is_lt (cmp b a) ≡ false → is_lt (cmp x a) ≡ true → is_lt (cmp x b) ≡ true
+  pub low_trans : (x a b : K) → is_lt (cmp b a) ≡ false → is_lt (cmp x a) ≡ true → is_lt (cmp x b) ≡ true
   low_trans x a b not_less less = by_order (cmp a b) refl
     where
       by_order : (r : Ordering) → cmp a b ≡ r → is_lt (cmp x b) ≡ true
@@ -33,7 +33,7 @@ module _ {X K : Type 0} (key : X → K) {cmp : K → K → Ordering} (o : IsTota
       by_order Greater e = let clash = sym not_less ∙ ap is_lt (o.antisymm b a ∙ ap ordering_reverse e) in cc
 
   -- and what is above the third is above the second
-  high_trans : (x a b : K) → is_lt (cmp b a) ≡ false → is_lt (cmp b x) ≡ true → is_lt (cmp a x) ≡ true
+  pub high_trans : (x a b : K) → is_lt (cmp b a) ≡ false → is_lt (cmp b x) ≡ true → is_lt (cmp a x) ≡ true
   high_trans x a b not_less less = by_order (cmp a b) refl
     where
       by_order : (r : Ordering) → cmp a b ≡ r → is_lt (cmp a x) ≡ true

@@ -1,4 +1,5 @@
 pub mod Closing
+pub mod ClosingFacts
 pub mod ClosingSteps
 pub mod EpochTallies
 pub mod SamePackets

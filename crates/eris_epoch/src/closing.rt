@@ -5,6 +5,7 @@ ghost use Rattle.eris_base.specs.Places.{number_in};
 ghost use Rattle.eris_log.specs.Places.{contains_place, any_among};
 ghost use Rattle.eris_log.specs.Sorted.{placed};
 ghost use Rattle.eris_epoch.specs.Closing.{held_of, held_in, undropped, each_once, by_places, shard_log, names, turn_on};
+ghost use Rattle.eris_epoch.specs.ClosingFacts.{IsShardLog};
 ghost use Rattle.eris_epoch.specs.ClosingSteps.{with_packet, with_packets, with_turn, AreByPlaces, IsStart, IsEnd};
 ghost use Rattle.eris_epoch.specs.SamePackets.{same_packet, is_listed};
 ghost use Rattle.eris_epoch.specs.Sorting.{sorted, InOrder, places_cmp, turn_cmp};
@@ -22,6 +23,14 @@ use std::cmp::Ordering;
 ///
 /// [`NoMemory`] where an allocation was refused.
 pub fn shard_log(alloc: Global, closed: &[Packet], shard: ShardId) -> Result<Row<Packet>, NoMemory>
+    ensures exact { IfOk result (λ log. log ≡ shard_log closed.now shard) }
+    ensures log { IfOk result (λ log. IsShardLog closed.now shard log) }
+{
+    add_turns(alloc, closed, shard)
+}
+
+/// The packets that name the shard, each put in turn behind those whose epoch and number aren't above its.
+fn add_turns(alloc: Global, closed: &[Packet], shard: ShardId) -> Result<Row<Packet>, NoMemory>
     ensures { IfOk result (λ log. log ≡ shard_log closed.now shard) }
 {
     let mut log = Row::new(alloc);

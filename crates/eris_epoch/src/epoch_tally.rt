@@ -44,6 +44,7 @@ impl Keyed for NotedPart {
 
 impl EpochTally {
     ghost use Rattle.eris_epoch.specs.Closing.{close};
+    ghost use Rattle.eris_epoch.specs.ClosingFacts.{IsClosing};
     ghost use Rattle.eris_epoch.specs.EpochTallies.{no_notes, note_state, is_ready};
 
     /// The tally of the epoch to come that notes no part yet. It takes no memory.
@@ -102,7 +103,8 @@ impl EpochTally {
         found: &[Packet],
         dropped: &[Place],
     ) -> Result<Row<Packet>, NoMemory>
-        ensures { IfOk result (λ closed. closed ≡ close self.now last found.now dropped.now) }
+        ensures exact { IfOk result (λ closed. closed ≡ close self.now last found.now dropped.now) }
+        ensures closing { IfOk result (λ closed. IsClosing self.now last found.now dropped.now closed) }
     {
         closing::survivors(self.alloc, self.noted.as_slice(), last, found, dropped)
     }
