@@ -1,4 +1,5 @@
-ghost use Rattle.std.specs.Prelude.{◌≡◌, false, length, IfOk, OnOk};
+ghost use Rattle.std.specs.Prelude.{◌≡◌, false, nat_lt, length, IfOk, OnOk};
+ghost use Rattle.std.specs.List.{list_all};
 
 use crate::{Sequencer, Sequencers};
 use eris_base::{ClientId, Config, Dup, Epoch, Node, Place, ReplicaId, Row, ShardId, TxnId};
@@ -142,15 +143,20 @@ fn other_messages_are_not_stamped(rt: HostRuntime) -> Result<(), Fail> {
     Ok(())
 }
 
+fn are_below_3(shards: &[ShardId]) -> bool
+    ensures { result ≡ list_all (λ shard. nat_lt shard.0 3) shards.now }
+{
+    shards.iter().all(|shard| shard.0 < 3)
+}
+
 /// Stamps a body on these shards, where they are below 3, and reads the counters of shards 0 to 3.
-#[tactic(auto, unfolding(crate::specs::Stamps::has_counters))]
 fn counters_after(alloc: Global, sequencer: &mut Sequencer, shards: &[u8]) -> Result<[u32; 4], Fail>
     requires { length sequencer.old.counters ≡ 3 }
     ensures { OnOk result (length sequencer.new.counters ≡ 3) }
 {
     let body = body(alloc, shards)?;
     let named = participants(alloc, &body)?;
-    if named.is_empty() || !named.as_slice().iter().all(|shard| shard.0 < 3) {
+    if named.is_empty() || !are_below_3(named.as_slice()) {
         return Err(Fail::from("shards below 3"));
     }
     let id = TxnId {
