@@ -11,6 +11,7 @@ use Rattle.eris_base.specs.declared.ids.ReplicaId.{ReplicaId}
 use Rattle.eris_base.specs.declared.ids.View.{View}
 use Rattle.eris_base.specs.Each.{Each}
 use Rattle.eris_base.specs.Quorums.{same_replica, different_replicas, are_quorum}
+use Rattle.eris_log.specs.Growth.{OfOneShard}
 use Rattle.eris_log.specs.PartValues.{PartValue}
 use Rattle.eris_log.specs.Sorted.{ascends_from}
 use Rattle.eris_log.specs.Laws.Sorted.{below_from, below_lower, ascends_tail, ascends_after}
@@ -20,7 +21,7 @@ use Rattle.eris_view.proofs.Replicas.{number_of, IsBelow, less_when, less_else, 
 use Rattle.eris_view.specs.AckTallies.{AckTallyValue, no_acks, with_ack, note_length, how_many_have, quorum_has, settled}
 use Rattle.eris_view.specs.Holders.{acks_ascend, holders, IsSharedByQuorum}
 use Rattle.eris_view.specs.ViewTallies.{ViewTallyValue, no_parts, with_part, note_part, replicas_of, is_ready}
-use Rattle.eris_view.specs.ViewTallyFacts.{IsViewTally}
+use Rattle.eris_view.specs.ViewTallyFacts.{IsViewTally, AreOfShard}
 
 -- ---- the tally of a view
 pub no_parts_is_tally : (view : View) (f : ℕ) → IsViewTally (no_parts view f)
@@ -44,6 +45,21 @@ each-with_part Said (other ∷ noted) replica part all one =
     by_tests true s more = (one, all)
     by_tests false true more = (one, all.1)
     by_tests false false more = (all.0, more)
+
+-- noted parts of the part's epoch and shard, before and after one more is noted
+pub AreOfShard-no_parts : (part : PartValue) (view : View) (f : ℕ) → AreOfShard part (no_parts view f).noted
+unfolding no_parts
+AreOfShard-no_parts part view f = tt
+
+pub AreOfShard-note_part : (part : PartValue) (tally : ViewTallyValue) (replica : ReplicaId) (other : PartValue)
+    → AreOfShard part tally.noted → OfOneShard part other → AreOfShard part (note_part tally replica other).noted
+unfolding note_part
+AreOfShard-note_part part tally replica other all one = each-with_part (λ replica noted. OfOneShard part noted) tally.noted replica other all one
+
+pub AreOfShard-noted : (part : PartValue) (tally new : ViewTallyValue) (replica : ReplicaId) (other : PartValue) → new ≡ note_part tally replica other
+    → AreOfShard part tally.noted → OfOneShard part other → AreOfShard part new.noted
+AreOfShard-noted part tally new replica other is all one =
+    subst (λ (made : ViewTallyValue). AreOfShard part made.noted) (sym is) (AreOfShard-note_part part tally replica other all one)
 
 -- a ready tally has, with the own one, at least f+1 different replicas
 pub ready_has_quorum : (tally : ViewTallyValue) (own : ReplicaId) → is_ready tally own ≡ true → tally.f < different_replicas (own ∷ replicas_of tally.noted)

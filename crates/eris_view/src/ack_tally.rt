@@ -32,7 +32,8 @@ impl AckTally {
     #[tactic(auto, unfolding(crate::specs::AckTallies::no_acks, crate::specs::AckCells::acks_from))]
     pub fn new(f: u8) -> AckTally
         requires { f ≤ 3 }
-        ensures { result ≡ no_acks f }
+        ensures exact { result ≡ no_acks f }
+        ensures faults { result.f ≡ f }
     {
         AckTally {
             f,
@@ -45,7 +46,8 @@ impl AckTally {
     #[tactic(auto, unfolding(crate::specs::AckTallies::note_length))]
     pub fn note(&mut self, replica: ReplicaId, length: u32)
         requires { replica.0 < 2 * self.old.f + 1 }
-        ensures { self.new ≡ note_length self.old replica length }
+        ensures exact { self.new ≡ note_length self.old replica length }
+        ensures faults { self.new.f ≡ self.old.f }
     {
         let at = replica.0 as usize;
         self.lengths[at] = Some(length_after(self.lengths[at], length));

@@ -3,6 +3,8 @@
 #![tactic(auto)]
 
 mod ack_tally;
+#[cfg(test)]
+mod tests;
 mod view_tally;
 
 pub use ack_tally::AckTally;

@@ -5,9 +5,9 @@ use Rattle.eris_view.specs.AckTallies.{AckTallyValue, note_length}
 use Rattle.eris_view.proofs.Acks.{acks_from-set}
 use Rattle.eris_view.proofs.ack_tally.AckTally.note.Goals as goal
 
-pub returns : goal.returns
+pub returns-clause-exact : goal.returns-clause-exact
 unfolding note_length
-returns c =
+returns-clause-exact c =
     let lengths = c.self.inside.lengths in
     let at = c.args.replica.0 in
     let faults = ap (λ (tally : AckTallyValue). tally.f) c.self.view_is in
