@@ -25,7 +25,7 @@ ghost use Rattle.eris_locks.specs.States.{empty};
 ghost use Rattle.eris_audit.specs.Histories.{txn_of};
 ghost use Rattle.eris_order.specs.Orders.{packets_on};
 ghost use Rattle.eris_serial.specs.Evidence.{HasOwn, IsIn, ReadEvidence, RefusalEvidence, SaidOn, StandsBehind, SubmitsWell, SubmittedLater, WholeEvidence};
-ghost use Rattle.eris_serial.specs.Joining.{GaveEach, IsJoined, joined};
+ghost use Rattle.eris_serial.specs.Joining.{GaveEach, IsJoined, TakesInTurn, shards_in_order};
 ghost use Rattle.eris_serial.specs.Times.{EachAnswerFirst, IsOneWay, IsOrderedBy, IsOwn};
 ghost use Rattle.eris_serial.specs.Transactions.{keys_in, takes_part};
 
@@ -38,12 +38,13 @@ pub fn logs_say()
     ensures whole_log { (shard : ShardId) (id : TxnId) (phase : Phase) (answer : Answer) (order log more : List Packet) → packets_on shard order ≡ log ++ more → Said id phase answer (run_dones empty (map (cut shard) log)) → SaidOn shard id phase answer order }
 {}
 
-/// From the shards' answers to one answer in the order of the body: where each shard gave one item for each
-/// of its operations or keys, the list in which each takes the next item of its shard has one item for each,
-/// and each shard's share of it is what the shard gave. The call does nothing; its contract is the law.
+/// From the shards' answers to one answer in the order of the body. Each shard gave one item for each of its
+/// operations or keys, which is a matter of lengths. Then what a function makes that takes, for each operation
+/// or key in order, the next item of its shard, has one item for each, and each shard's share of it is what
+/// the shard gave. The call does nothing; its contract is the law.
 pub fn shards_join()
-    ensures operations { (operations : List Op) (given : ShardId → List OpAnswer) → GaveEach key_of operations given → IsJoined key_of operations given (joined key_of operations given) }
-    ensures keys { (keys : List Key) (given : ShardId → List (Option ℕ)) → GaveEach (λ key. key) keys given → IsJoined (λ key. key) keys given (joined (λ key. key) keys given) }
+    ensures operations { (take : List ShardId → (ShardId → List OpAnswer) → List OpAnswer) → TakesInTurn take → (operations : List Op) (given : ShardId → List OpAnswer) → GaveEach key_of operations given → IsJoined key_of operations given (take (shards_in_order (map key_of operations)) given) }
+    ensures keys { (take : List ShardId → (ShardId → List (Option ℕ)) → List (Option ℕ)) → TakesInTurn take → (keys : List Key) (given : ShardId → List (Option ℕ)) → GaveEach (λ key. key) keys given → IsJoined (λ key. key) keys given (take (shards_in_order keys) given) }
     ensures operations_given { (operations : List Op) (given : ShardId → List OpAnswer) → ((shard : ShardId) → length (given shard) ≡ length (filter (λ op. is_on shard (key_of op)) operations)) → GaveEach key_of operations given }
     ensures keys_given { (keys : List Key) (given : ShardId → List (Option ℕ)) → ((shard : ShardId) → length (given shard) ≡ length (filter (λ key. is_on shard key) keys)) → GaveEach (λ key. key) keys given }
 {}
@@ -51,8 +52,8 @@ pub fn shards_join()
 /// A joined answer is evidence where each shard that takes part said what it gave. The call does nothing; its
 /// contract is the law.
 pub fn joined_is_evidence()
-    ensures whole { (txn : TxnId → Txn) (id : TxnId) (operations : List Op) (given : ShardId → List OpAnswer) (packets : List Packet) → txn id ≡ Whole operations → (operations ≡ [] → ⊥) → GaveEach key_of operations given → ((shard : ShardId) → IsTrue (takes_part shard (txn id)) → SaidOn shard id Phase.Whole (Answer.Ops (given shard)) packets) → WholeEvidence txn id (Answer.Ops (joined key_of operations given)) packets }
-    ensures read { (txn : TxnId → Txn) (id : TxnId) (plan : PlanValue) (given : ShardId → List (Option ℕ)) (packets : List Packet) → txn id ≡ General plan → GaveEach (λ key. key) plan.keys given → ((shard : ShardId) → IsTrue (takes_part shard (txn id)) → SaidOn shard id Phase.Prelim (Answer.Values (given shard)) packets) → ReadEvidence txn id (joined (λ key. key) plan.keys given) packets }
+    ensures whole { (txn : TxnId → Txn) (id : TxnId) (operations : List Op) (given : ShardId → List OpAnswer) (answers : List OpAnswer) (packets : List Packet) → txn id ≡ Whole operations → (operations ≡ [] → ⊥) → IsJoined key_of operations given answers → ((shard : ShardId) → IsTrue (takes_part shard (txn id)) → SaidOn shard id Phase.Whole (Answer.Ops (given shard)) packets) → WholeEvidence txn id (Answer.Ops answers) packets }
+    ensures read { (txn : TxnId → Txn) (id : TxnId) (plan : PlanValue) (given : ShardId → List (Option ℕ)) (values : List (Option ℕ)) (packets : List Packet) → txn id ≡ General plan → IsJoined (λ key. key) plan.keys given values → ((shard : ShardId) → IsTrue (takes_part shard (txn id)) → SaidOn shard id Phase.Prelim (Answer.Values (given shard)) packets) → ReadEvidence txn id values packets }
 {}
 
 /// What was counted over a list stands in it: the own packet of an id whose values were read, which was

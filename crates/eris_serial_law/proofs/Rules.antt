@@ -1,5 +1,5 @@
 -- The five rules: evidence for a history by an order of packets makes it serial with the order's lines. All else here
--- is used by this file.
+-- but `FirstPackets` and `CutOrigins` is used by this file.
 use Rattle.std.proofs.Common.{◌≡◌, ℕ, Bool, true, false, cond, Option, Some, None, List, [], ◌∷◌, ◌++◌, map, refl, ap, sym, ◌∙◌, subst, map-id, ◌⊎◌, inl, inr}
 use Rattle.std.proofs.lemmas.Bool.{both_ways, cases_Bool}
 use Rattle.std.specs.Prelude.{IsTrue, IsFalse}
