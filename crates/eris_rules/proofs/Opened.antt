@@ -63,7 +63,7 @@ unfolding locks_locks.conflict
 of_locks = 0
 
 unfoldable pub of_drop : ℕ
-unfolding drop_notes.same_note drop_notes.has_note drop_notes.note drop_notes.forget drop_notes.is_noted_in drop_notes.noted_replicas drop_notes.is_drop_quorum drop_notes.has_drop_quorum drop_notes.decided drop_requests.is_known drop_requests.answer_by drop_requests.answer_request
+unfolding drop_notes.same_note drop_notes.has_note drop_notes.note drop_notes.forget drop_notes.is_noted_in drop_notes.is_drop_quorum drop_notes.has_drop_quorum drop_notes.decided drop_requests.is_known drop_requests.answer_by drop_requests.answer_request
 of_drop = 0
 
 unfoldable pub of_view : ℕ

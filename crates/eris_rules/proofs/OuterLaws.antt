@@ -1,12 +1,14 @@
 -- The message of one epoch in a message, and the message that is sent for it, undo each other.
-use Rattle.std.proofs.Common.{◌≡◌, ℕ, Option, Some, None, List, [], ◌∷◌, refl, ap, sym, ◌∙◌}
+use Rattle.std.proofs.Common.{◌≡◌, ℕ, Option, Some, None, List, [], ◌∷◌, ◌++◌, refl, ap, sym, ◌∙◌}
 use Rattle.eris_base.specs.declared.ids.Epoch.{Epoch}
+use Rattle.eris_base.specs.declared.ids.Node.{Node}
 use Rattle.eris_base.specs.declared.ids.Place.{Place}
 use Rattle.eris_base.specs.declared.ids.ShardId.{ShardId}
 use Rattle.eris_base.specs.Each.{Each}
 use Rattle.eris_msg.specs.declared.message.Message.{Message}
-use Rattle.eris_rules.specs.EpochMessages.{EpochMessage, Stamped, Instructs, Notifies, Exchanges, Responds, Request, Found, Dropped, Find, Has, TempDropped, ViewChange, StartView, SyncAsk, Ack, Settled, Vouch, Reply, Late}
-use Rattle.eris_rules.specs.Outer.{places_in, pairs_of, outer, Inner, said_in, inner_of, IsOf}
+use Rattle.eris_msg.specs.declared.outgoing.Outgoing.{Outgoing}
+use Rattle.eris_rules.specs.EpochMessages.{EpochSend, send_each, EpochMessage, Stamped, Instructs, Notifies, Exchanges, Responds, Request, Found, Dropped, Find, Has, TempDropped, ViewChange, StartView, SyncAsk, Ack, Settled, Vouch, Reply, Late}
+use Rattle.eris_rules.specs.Outer.{places_in, pairs_of, outer, outer_send, outer_sends, tell_each, Inner, said_in, inner_of, IsOf}
 
 -- shards and numbers come back from the places that they are made into
 pub pairs_of-places_in : (epoch : Epoch) (pairs : List (ShardId × ℕ)) → pairs_of (places_in epoch pairs) ≡ pairs
@@ -52,3 +54,12 @@ inner_of-outer epoch (Exchanges (Settled view number places)) is = ap (λ (made 
 inner_of-outer epoch (Responds (Vouch view shard replica stamp id phase)) is = ap (λ (e : Epoch). said_in e (Responds (Vouch view shard replica stamp id phase))) is
 inner_of-outer epoch (Responds (Reply view shard replica stamp id phase answer)) is = ap (λ (e : Epoch). said_in e (Responds (Reply view shard replica stamp id phase answer))) is
 inner_of-outer epoch (Responds (Late shard replica id phase answer)) is = absurd is
+
+-- what is sent for a message to each of some nodes is the message that is sent for it, to each of them
+pub outer_sends-each : (epoch : Epoch) (nodes : List Node) (message : EpochMessage) → outer_sends epoch (send_each nodes message) ≡ tell_each nodes (outer epoch message)
+outer_sends-each epoch [] message = refl
+outer_sends-each epoch (node ∷ nodes) message = ap (λ (rest : List Outgoing). record { to = node; message = outer epoch message } ∷ rest) (outer_sends-each epoch nodes message)
+
+pub outer_sends-append : (epoch : Epoch) (some more : List EpochSend) → outer_sends epoch (some ++ more) ≡ outer_sends epoch some ++ outer_sends epoch more
+outer_sends-append epoch [] more = refl
+outer_sends-append epoch (one ∷ some) more = ap (λ (rest : List Outgoing). outer_send epoch one ∷ rest) (outer_sends-append epoch some more)

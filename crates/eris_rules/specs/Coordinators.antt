@@ -2,7 +2,7 @@
 -- steps: it raises the target and asks all replicas to stop; it notes what they know; and once f+1 replicas of
 -- every shard gave it, it closes the epochs up to the target. What anybody counted in the current epoch is
 -- with one of these replicas, so it is among the closed packets.
-use Rattle.std.specs.Prelude.{Bool, not, ◌==◌, ◌&&◌, nat_lt, nat_le, Option, Some, None, List, [], ◌∷◌, ◌++◌, map, if◌then◌else◌}
+use Rattle.std.specs.Prelude.{Bool, not, ◌==◌, ◌&&◌, nat_lt, nat_le, Option, Some, None, List, [], ◌∷◌, ◌++◌, if◌then◌else◌}
 use Rattle.std.specs.List.{flat_map, range_with_len}
 use Rattle.eris_base.specs.declared.ids.Epoch.{Epoch}
 use Rattle.eris_base.specs.declared.ids.Node.TheVariants.{Replica}
@@ -21,7 +21,7 @@ use Rattle.eris_rules.specs.CoordStates.{EpochCoordOut, CoordState, CoordOut, be
 use Rattle.eris_rules.specs.EpochCoords.{epoch_coord_step, nudge_row}
 use Rattle.eris_rules.specs.EpochMessages.{EpochMessage, Stamped, Instructs, Notifies, Exchanges, Responds, Find, Has, TempDropped}
 use Rattle.eris_rules.specs.InPlace.{is_in_place_at_coordinator}
-use Rattle.eris_rules.specs.Outer.{Inner, inner_of, outer_sends}
+use Rattle.eris_rules.specs.Outer.{Inner, inner_of, outer_sends, tell_each}
 
 abbrev pub stays : CoordState → CoordOut
 stays state = record { state = state; sends = [] }
@@ -65,7 +65,7 @@ coord_takes_inner config state inner =
 
 -- a message to every replica of every shard
 abbrev pub tell_all : ConfigValue → Message → List Outgoing
-tell_all config message = map (λ node. record { to = node; message = message }) (all_replicas config)
+tell_all config message = tell_each (all_replicas config) message
 
 -- The parts noted for an earlier target are of no use: their senders may have gone on since.
 unfoldable pub raises_target : ConfigValue → CoordState → Epoch → CoordOut
@@ -94,7 +94,7 @@ after_closing config state = begun_epoch state.target (state.closed ++ left_behi
 
 -- the start of the current epoch to every replica of a shard
 unfoldable pub starts_shard : ConfigValue → CoordState → ShardId → List Outgoing
-starts_shard config state shard = map (λ node. record { to = node; message = start_of state shard }) (shard_replicas config shard)
+starts_shard config state shard = tell_each (shard_replicas config shard) (start_of state shard)
 
 -- and of every shard
 unfoldable pub starts_all : ConfigValue → CoordState → List Outgoing

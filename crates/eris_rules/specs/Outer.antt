@@ -1,6 +1,7 @@
 -- The messages that nodes send each other, and the messages of one epoch in them.
 use Rattle.std.specs.Prelude.{◌≡◌, ℕ, Option, Some, None, List, map, ⊤}
 use Rattle.eris_base.specs.declared.ids.Epoch.{Epoch}
+use Rattle.eris_base.specs.declared.ids.Node.{Node}
 use Rattle.eris_base.specs.declared.ids.Place.{Place}
 use Rattle.eris_base.specs.declared.ids.ShardId.{ShardId}
 use Rattle.eris_base.specs.Each.{Each}
@@ -51,6 +52,10 @@ outer_send epoch one = record { to = one.to; message = outer epoch one.message }
 
 abbrev pub outer_sends : Epoch → List EpochSend → List Outgoing
 outer_sends epoch sends = map (λ one. outer_send epoch one) sends
+
+-- the message to each of the nodes, in their order
+abbrev pub tell_each : List Node → Message → List Outgoing
+tell_each nodes message = map (λ node. record { to = node; message = message }) nodes
 
 -- an epoch, and what is said within it
 pub record Inner : Type 0 where

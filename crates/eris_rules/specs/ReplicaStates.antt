@@ -1,5 +1,5 @@
 -- What a replica is, within one epoch and over all of them.
-use Rattle.std.specs.Prelude.{ℕ, Bool, true, false, ◌==◌, not, Option, None, List, []}
+use Rattle.std.specs.Prelude.{ℕ, Bool, true, false, nat_lt, Option, None, List, []}
 use Rattle.eris_base.specs.declared.ids.Epoch.{Epoch}
 use Rattle.eris_base.specs.declared.ids.Node.{Node}
 use Rattle.eris_base.specs.declared.ids.Node.TheVariants.{Replica}
@@ -106,4 +106,4 @@ first_state shard = begun (record { 0 = 0 }) shard []
 
 -- It has promised a higher epoch than its own, so it takes no part in its own any more.
 abbrev pub is_stopped : ReplicaState → Bool
-is_stopped state = not (state.promised.0 == state.epoch.0)
+is_stopped state = nat_lt state.epoch.0 state.promised.0

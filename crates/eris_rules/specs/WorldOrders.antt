@@ -1,9 +1,13 @@
 -- The order that a world makes of what was stamped.
-use Rattle.std.specs.Prelude.{Bool, not, ◌==◌, ◌&&◌, ◌||◌, List}
+use Rattle.std.specs.Prelude.{ℕ, Bool, false, not, ◌==◌, ◌&&◌, ◌||◌, Option, Some, None, List}
 use Rattle.std.specs.List.{filter, flat_map, list_any}
 use Rattle.eris_base.specs.declared.ids.Epoch.{Epoch}
 use Rattle.eris_base.specs.declared.ids.ShardId.{ShardId}
+use Rattle.eris_base.specs.Places.{number_in}
 use Rattle.eris_txn.specs.declared.packet.Packet.{Packet}
+use Rattle.eris_log.specs.Entries.{is_held_and}
+use Rattle.eris_log.specs.Held.{packet_at}
+use Rattle.eris_log.specs.PartValues.{PartValue}
 use Rattle.eris_log.specs.Places.{any_among}
 use Rattle.eris_audit.specs.declared.order_line.OrderLine.{OrderLine}
 use Rattle.eris_order.specs.Orders.{packets_on, order_lines}
@@ -17,10 +21,17 @@ use Rattle.eris_rules.specs.Worlds.{WorldState}
 unfoldable pub stamping_list : List Stamping → List Packet
 stamping_list stampings = flat_map (λ stamping. stamping.stamped) stampings
 
+-- the packet is held at the number that its stamp gives the part's shard
+abbrev pub is_held_at : PartValue → Packet → Option ℕ → Bool
+is_held_at part packet None = false
+is_held_at part packet (Some number) = is_held_and (λ other. same_packet packet other) (packet_at part.held number)
+
+abbrev pub has_packet : PartValue → Packet → Bool
+has_packet part packet = is_held_at part packet (number_in packet.stamp.places part.shard)
+
 -- the replica is in the epoch and holds the packet
 unfoldable pub is_held_by : Epoch → Packet → ReplicaState → Bool
-is_held_by epoch packet replica =
-    replica.epoch.0 == epoch.0 && list_any (λ pair. same_packet packet pair.1) replica.inner.part.held
+is_held_by epoch packet replica = replica.epoch.0 == epoch.0 && has_packet replica.inner.part packet
 
 -- some replica of the epoch holds the packet, be it crashed or not
 unfoldable pub is_held_in : Epoch → List (List ReplicaState) → Packet → Bool
