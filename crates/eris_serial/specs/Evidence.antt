@@ -72,7 +72,7 @@ abbrev pub IsIn : {X : Type 0} → X → List X → Type 0
 IsIn item [] = ⊥
 IsIn item (other ∷ others) = (other ≡ item) ⊎ IsIn item others
 
--- AN OUTCOME ANSWERED to the owner, who had read before
+-- AN OUTCOME ANSWERED to the owner, of which the history has a Read
 pub record OwnOutcomeEvidence (history : List HistoryEvent) (id : TxnId) (answer : Answer) (packets : List Packet) : Type 0 where
   pub values : List (Option ℕ)
   pub read : IsIn (Read id values) history
