@@ -1,4 +1,5 @@
 pub mod AskLaws
 pub mod Examples
+pub mod NumberLaws
 pub mod SequencerLaws
 pub mod StampLaws

@@ -91,6 +91,10 @@ has_counters-at config stampings shards at d h k lt =
     let same : length (get_or stampings at d).sequencer.counters ≡ config.shards = eqb-true _ _ (and_parts _ _ parts.1).0 in
     ap (λ n. list_all (λ (shard : ShardId). nat_lt shard.0 n) shards) same ∙ (and_parts _ _ k).1
 
+pub in_place-shards : (config : Config) (asker : ClientId) (id : TxnId) (body : Body) → is_in_place config asker id body ≡ true → are_shards_of config (participants_of body) ≡ true
+unfolding is_in_place
+in_place-shards config asker id body h = (and_parts _ _ (and_parts _ _ h).1).1
+
 pub some_shard : (config : Config) (shards : List ShardId) → are_shards_of config shards ≡ true → nat_lt 0 (length shards) ≡ true
 unfolding are_shards_of
 some_shard config shards h = (and_parts _ _ h).0

@@ -1,7 +1,7 @@
 ghost use Rattle.std.specs.Prelude.{◌≡◌, ◌<◌, ◌-◌, ◌^◌, true, false, IfOk, OnOk, OnErr};
 ghost use Rattle.eris_sequencer.specs.Asks.{ask};
 ghost use Rattle.eris_sequencer.specs.Sequencers.{first_stampings, newest_of, new_stamping, replace, stamped_in};
-ghost use Rattle.eris_sequencer.specs.StampingFacts.{AddsAtMostOne};
+ghost use Rattle.eris_sequencer.specs.StampingFacts.{AddsAtMostOne, AreStampings};
 
 use crate::asks::take_message;
 use crate::sequencer::Sequencer;
@@ -66,7 +66,8 @@ impl Sequencers {
     #[tactic(auto, unfolding(crate::specs::Sequencers::newest_of))]
     pub fn newest(&self) -> Epoch
         requires { self.now.spent ≡ false }
-        ensures { result ≡ newest_of self.now.stampings }
+        ensures exact { result ≡ newest_of self.now.stampings }
+        ensures fits { AreStampings self.now.config self.now.stampings }
     {
         Epoch((self.stampings.len() - 1) as u32)
     }
