@@ -185,8 +185,8 @@ pub IsClosing-close : (tally : EpochTallyValue) (last : Epoch) (found : List Pac
 unfolding close undropped by_places IsDistinct
 IsClosing-close tally last found dropped = record {
   members = λ packet.
-    is_listed-by_places (each_once kept) packet ∙ is_listed-each_once packet kept
-    ∙ is_listed-filter packet (λ packet. not (any_among dropped packet.stamp)) (held_in last tally.noted ++ found);
+      is_listed-by_places (each_once kept) packet ∙ is_listed-each_once packet kept
+      ∙ is_listed-filter packet (λ packet. not (any_among dropped packet.stamp)) (held_in last tally.noted ++ found);
   once = subst (λ (packets : List Packet). IsDistinct same_packet packets) (sym (survivors-by_places kept)) (distinct-with_packets [] kept tt);
   order = InOrder-sorted places_of places_cmp-total (each_once kept);
   stable = IsStable-sorted places_of places_cmp-total (each_once kept);
