@@ -1,7 +1,7 @@
 -- What a tally of an epoch says of quorums, and what survives the epoch.
-use Rattle.std.proofs.Common.{◌≡◌, ◌<◌, ℕ, Bool, true, false, not, ◌&&◌, ◌||◌, cond, List, [], ◌∷◌, ◌++◌, is_some, refl, ap, sym, ◌∙◌, subst}
-use Rattle.std.proofs.lemmas.Bool.{ltb-true, cond_both}
-use Rattle.std.specs.List.{AllByRecursion, IsDistinct, list_any, fold}
+use Rattle.std.proofs.Common.{◌≡◌, ◌<◌, ℕ, Bool, true, false, not, ◌&&◌, ◌||◌, cond, List, [], ◌∷◌, ◌++◌, refl, ap, sym, ◌∙◌, subst}
+use Rattle.std.proofs.lemmas.Bool.{ltb-true}
+use Rattle.std.specs.List.{AllByRecursion, IsDistinct, fold}
 use Rattle.std.specs.Ordering.{is_lt}
 use Rattle.std.specs.Prelude.{filter}
 use Rattle.eris_base.specs.declared.ids.Epoch.{Epoch}
@@ -14,7 +14,7 @@ use Rattle.eris_base.specs.Quorums.{different_replicas}
 use Rattle.eris_txn.specs.declared.packet.Packet.{Packet}
 use Rattle.eris_log.specs.PartValues.{PartValue}
 use Rattle.eris_log.specs.Places.{any_among}
-use Rattle.eris_log.specs.Sorted.{placed, with_item}
+use Rattle.eris_log.specs.Sorted.{placed}
 use Rattle.eris_log.specs.Laws.Sorted.{ascends-with_item, all-with_item}
 use Rattle.eris_epoch.specs.declared.noted.NotedPart.{NotedPart}
 use Rattle.eris_epoch.specs.Closing.{held_in, undropped, with_new, each_once, by_places, close, names, turn_on, shard_log}
@@ -22,9 +22,9 @@ use Rattle.eris_epoch.specs.ClosingFacts.{IsClosing, IsShardLog}
 use Rattle.eris_epoch.specs.ClosingSteps.{with_packet, with_packets}
 use Rattle.eris_epoch.specs.EpochTallies.{EpochTallyValue, no_notes, with_noted, note_state, sender_of, sender_cmp, replicas_of, is_heard, is_ready}
 use Rattle.eris_epoch.specs.SamePackets.{same_packet, is_listed}
-use Rattle.eris_epoch.specs.Sorting.{sorted, places_cmp, turn_cmp}
+use Rattle.eris_epoch.specs.Sorting.{places_cmp, turn_cmp}
 use Rattle.eris_epoch.specs.TallyFacts.{IsEpochTally}
-use Rattle.eris_epoch.proofs.Additions.{places_of, places_cmp-total, turn_cmp-total, is_listed-by_places, survivors-by_places, InOrder-shard_log}
+use Rattle.eris_epoch.proofs.Additions.{places_of, places_cmp-total, turn_cmp-total, is_listed-by_places, survivors-by_places}
 use Rattle.eris_epoch.proofs.Heard.{sender_cmp-total, heard_at}
 use Rattle.eris_epoch.proofs.SameLaws.{same_packet-true, same_packet-refl}
 use Rattle.eris_epoch.proofs.SortLaws.{InOrder-sorted, list_any-sorted}
@@ -185,8 +185,8 @@ pub IsClosing-close : (tally : EpochTallyValue) (last : Epoch) (found : List Pac
 unfolding close undropped by_places IsDistinct
 IsClosing-close tally last found dropped = record {
   members = λ packet.
-    is_listed-by_places (each_once kept) packet ∙ is_listed-each_once packet kept
-    ∙ is_listed-filter packet (λ packet. not (any_among dropped packet.stamp)) (held_in last tally.noted ++ found);
+      is_listed-by_places (each_once kept) packet ∙ is_listed-each_once packet kept
+      ∙ is_listed-filter packet (λ packet. not (any_among dropped packet.stamp)) (held_in last tally.noted ++ found);
   once = subst (λ (packets : List Packet). IsDistinct same_packet packets) (sym (survivors-by_places kept)) (distinct-with_packets [] kept tt);
   order = InOrder-sorted places_of places_cmp-total (each_once kept);
   stable = IsStable-sorted places_of places_cmp-total (each_once kept);

@@ -1,5 +1,5 @@
 -- Sorted lists: where an item goes, and what holds of the sorted list.
-use Rattle.std.proofs.Common.{◌≡◌, ◌≤◌, ◌<◌, ◌+◌, ℕ, zero, suc, Bool, true, false, not, ◌||◌, cond, List, [], ◌∷◌, ◌++◌, length, get_or, take, drop, insert, refl, ap, sym, ◌∙◌, subst, arith}
+use Rattle.std.proofs.Common.{◌≡◌, ◌≤◌, ◌<◌, ℕ, zero, suc, Bool, true, false, not, ◌||◌, cond, List, [], ◌∷◌, ◌++◌, length, get_or, take, drop, insert, refl, ap, sym, ◌∙◌, arith}
 use Rattle.std.proofs.lemmas.Bool.{cond-true, cond-false}
 use Rattle.std.proofs.lemmas.Cmp.{tied_itself, alike_right}
 use Rattle.std.specs.Cmp.{IsTotalOrder}
@@ -10,7 +10,7 @@ use Rattle.std.specs.declared.cmp.Ordering.{Ordering}
 use Rattle.std.specs.declared.cmp.Ordering.TheVariants.{Less, Equal, Greater}
 use Rattle.eris_base.specs.Each.{Each}
 use Rattle.eris_log.specs.Sorted.{placed}
-use Rattle.eris_epoch.specs.ClosingSteps.{IsStart, IsEnd}
+use Rattle.eris_epoch.specs.ClosingSteps.{IsEnd}
 use Rattle.eris_epoch.specs.Sorting.{sorted, InOrder}
 
 less_from : (o : Ordering) → is_lt o ≡ true → o ≡ Less

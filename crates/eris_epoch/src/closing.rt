@@ -76,7 +76,10 @@ fn comes_before(other: &Packet, packet: &Packet, shard: ShardId) -> bool
 fn turn_of(packet: &Packet, shard: ShardId) -> (Epoch, u32)
     ensures { result ≡ turn_on shard packet.now }
 {
-    (packet.stamp.epoch, packet.stamp.number_of(shard).unwrap_or(0))
+    (
+        packet.stamp.epoch,
+        packet.stamp.number_of(shard).unwrap_or(0),
+    )
 }
 
 /// The packets that noted parts of the epoch hold and the found ones, without those that have a dropped

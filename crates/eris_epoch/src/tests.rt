@@ -1,7 +1,5 @@
 use super::*;
-use eris_base::{
-    ClientId, Config, Epoch, NoMemory, Place, ReplicaId, Row, ShardId, Stamp, TxnId,
-};
+use eris_base::{ClientId, Config, Epoch, NoMemory, Place, ReplicaId, Row, ShardId, Stamp, TxnId};
 use eris_log::Part;
 use eris_txn::{Body, Packet};
 use std::alloc::Global;
@@ -28,10 +26,7 @@ static PARTS: [(u8, u8, [u8; 6], [u8; 6], usize, bool); 12] = [
     (1, 3, [0; 6], [6, 5, 4, 4, 5, 3], 6, true),
 ];
 
-fn is_ready(
-    alloc: Global,
-    row: &(u8, u8, [u8; 6], [u8; 6], usize, bool),
-) -> Result<bool, Fail> {
+fn is_ready(alloc: Global, row: &(u8, u8, [u8; 6], [u8; 6], usize, bool)) -> Result<bool, Fail> {
     let config = Config::new(row.0, row.1, 1)?;
     let mut tally = EpochTally::new(alloc, Epoch(1), config);
     for (shard, replica) in row.2.iter().zip(&row.3).take(row.4) {
@@ -106,7 +101,10 @@ fn part_of(alloc: Global, shard: u8, held: &[Numbers]) -> Result<Part, NoMemory>
 /// The clients of the packets, in order, and that there are no more.
 fn are_of(packets: &[Packet], clients: &[u8]) -> bool {
     packets.len() == clients.len()
-        && packets.iter().zip(clients).all(|(packet, client)| packet.id.client.0 == *client)
+        && packets
+            .iter()
+            .zip(clients)
+            .all(|(packet, client)| packet.id.client.0 == *client)
 }
 
 /// Of replica 0 of shard 0 two parts are noted, of which the first counts.

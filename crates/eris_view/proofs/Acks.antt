@@ -1,5 +1,5 @@
 -- Acknowledged lengths: one more, and how far a quorum has come.
-use Rattle.std.proofs.Common.{◌≡◌, ◌≤◌, ◌<◌, ◌+◌, ◌-◌, ℕ, zero, suc, Bool, true, false, ◌&&◌, ◌==◌, nat_lt, cond, Option, Some, None, List, [], ◌∷◌, length, get_or, take, set, max, min, refl, ap, sym, ◌∙◌, subst, arith, ◌⊎◌, inl, inr}
+use Rattle.std.proofs.Common.{◌≡◌, ◌≤◌, ◌<◌, ◌+◌, ◌-◌, ℕ, zero, suc, Bool, true, false, ◌&&◌, ◌==◌, nat_lt, cond, Option, Some, None, List, [], ◌∷◌, length, get_or, take, set, max, min, refl, ap, sym, ◌∙◌, arith, ◌⊎◌, inl, inr}
 use Rattle.std.proofs.lemmas.Bool.{and_parts, and_from, cond-true, cond-false, ltb-true, ltb-false, lt-ltb, le-ltb, eq-eqb, ne_eqb, eqb-true, eqb-false}
 use Rattle.std.proofs.lemmas.Bool.Decides.{nat_tests}
 use Rattle.std.proofs.lemmas.List.Sums.{sum_by-cons}
@@ -7,7 +7,6 @@ use Rattle.std.specs.Ordering.{nat_cmp, ord_max}
 use Rattle.std.specs.Prelude.{nat_le, count_by}
 use Rattle.eris_base.specs.declared.ids.ReplicaId.{ReplicaId}
 use Rattle.eris_base.specs.Each.{Each}
-use Rattle.eris_base.specs.Quorums.{same_replica}
 use Rattle.eris_view.specs.AckCells.{acks_from, cell_has, length_after, offered}
 use Rattle.eris_view.proofs.Replicas.{is_lt-nat_lt}
 use Rattle.eris_view.specs.AckTallies.{AckTallyValue, with_ack, how_many_have, quorum_has, greatest, settled, IsSettled}
@@ -263,9 +262,9 @@ IsSettled-far cells f own number some far = record {
   within = far.within;
   shared = far.shared;
   greatest = λ other has.
-    let parts = and_parts _ _ has in
-    let within = le_from other own parts.0 in
-    reaches cells f own number (own - other) other (omega arith) some (offers-acks cells f own number 0 cells far.offers) (le_from f _ parts.1);
+      let parts = and_parts _ _ has in
+      let within = le_from other own parts.0 in
+      reaches cells f own number (own - other) other (omega arith) some (offers-acks cells f own number 0 cells far.offers) (le_from f _ parts.1);
 }
 
 pub ord_max-max : (a b : ℕ) → ord_max nat_cmp a b ≡ max a b

@@ -1,26 +1,20 @@
 -- Noted parts: where a replica's part stands, how many replicas there are, and how they are merged.
-use Rattle.std.proofs.Common.{◌≡◌, ◌≤◌, ◌<◌, ◌+◌, ℕ, zero, suc, Bool, true, false, ◌&&◌, ◌||◌, ◌==◌, nat_lt, cond, Some, List, [], ◌∷◌, ◌++◌, length, get_or, take, drop, set, insert, refl, ap, sym, ◌∙◌, subst, arith}
-use Rattle.std.proofs.lemmas.Bool.{and_parts, and_from, cond-true, cond-false, ltb-true, ltb-false, lt-ltb, eqb-true, eqb-false}
-use Rattle.std.proofs.lemmas.Bool.Decides.{nat_tests}
+use Rattle.std.proofs.Common.{◌≡◌, ◌<◌, ◌+◌, ℕ, zero, suc, Bool, true, false, nat_lt, cond, Some, List, [], ◌∷◌, ◌++◌, length, get_or, take, drop, set, insert, refl, ap, sym, ◌∙◌, subst, arith}
+use Rattle.std.proofs.lemmas.Bool.{cond-true, cond-false, eqb-true}
 use Rattle.std.proofs.lemmas.Cmp.{nat_cmp_total}
-use Rattle.std.proofs.lemmas.Grind.{common_steps}
-use Rattle.std.specs.Prelude.{fold, map}
-use Rattle.std.specs.List.{AllByRecursion, list_any}
-use Rattle.std.specs.Ordering.{nat_cmp, is_lt}
-use Rattle.std.specs.Set.{is_member, unique_keys}
-use Rattle.std.specs.declared.cmp.Ordering.TheVariants.{Less, Equal, Greater}
+use Rattle.std.specs.Ordering.{nat_cmp}
+use Rattle.std.specs.declared.cmp.Ordering.TheVariants.{Less}
 use Rattle.eris_base.specs.declared.ids.ReplicaId.{ReplicaId}
-use Rattle.eris_base.specs.Each.{Each}
-use Rattle.eris_base.specs.Quorums.{same_replica, different_replicas}
+use Rattle.eris_base.specs.Quorums.{same_replica}
 use Rattle.eris_log.specs.Growth.{OfOneShard}
 use Rattle.eris_log.specs.PartValues.{PartValue}
 use Rattle.eris_log.specs.Parts.{merge}
-use Rattle.eris_log.specs.Sorted.{ascends, ascends_from}
+use Rattle.eris_log.specs.Sorted.{ascends_from}
 use Rattle.eris_log.specs.Laws.Parts.{merges_again}
-use Rattle.eris_log.specs.Laws.Sorted.{Below, below_from, below_lower, ascends_tail, ascends_after}
+use Rattle.eris_log.specs.Laws.Sorted.{below_from, below_lower, ascends_tail, ascends_after}
 use Rattle.eris_view.proofs.Replicas.{number_of, IsBelow, less_when, less_else}
-use Rattle.eris_view.specs.ViewTallies.{with_part, replicas_of, union_of}
-use Rattle.eris_view.specs.ViewTallyFacts.{replicas_ascend, AreOfShard, IsUnionBegun}
+use Rattle.eris_view.specs.ViewTallies.{with_part, union_of}
+use Rattle.eris_view.specs.ViewTallyFacts.{replicas_ascend, AreOfShard}
 
 abbrev Noted : Type 0
 Noted = ReplicaId × PartValue
@@ -73,27 +67,27 @@ unfolding with_part
 below-with_part low [] replica part below less = (less, tt)
 below-with_part low (one ∷ noted) replica part below less =
     by_tests (nat_lt replica.0 one.0.0) (same_replica replica one.0) (below-with_part low noted replica part below.1 less)
-    where
-      by_tests : (t s : Bool) → IsBelow low (with_part noted replica part)
-          → IsBelow low (cond t ((replica, part) ∷ one ∷ noted) (cond s ((replica, part) ∷ noted) (one ∷ with_part noted replica part)))
-      by_tests true s more = (less, below)
-      by_tests false true more = (less, below.1)
-      by_tests false false more = (below.0, more)
+  where
+    by_tests : (t s : Bool) → IsBelow low (with_part noted replica part)
+        → IsBelow low (cond t ((replica, part) ∷ one ∷ noted) (cond s ((replica, part) ∷ noted) (one ∷ with_part noted replica part)))
+    by_tests true s more = (less, below)
+    by_tests false true more = (less, below.1)
+    by_tests false false more = (below.0, more)
 
 pub replicas_ascend-with_part : (noted : List Noted) (replica : ReplicaId) (part : PartValue) → replicas_ascend noted ≡ true → replicas_ascend (with_part noted replica part) ≡ true
 unfolding with_part
 replicas_ascend-with_part [] replica part h = refl
 replicas_ascend-with_part (one ∷ noted) replica part h =
     by_tests (nat_lt replica.0 one.0.0) refl (same_replica replica one.0) refl (replicas_ascend-with_part noted replica part (ascends_tail number_of nat_cmp_total one noted h))
-    where
-      below : IsBelow one.0.0 noted
-      below = below_from number_of nat_cmp_total one.0.0 noted h
+  where
+    below : IsBelow one.0.0 noted
+    below = below_from number_of nat_cmp_total one.0.0 noted h
 
-      by_tests : (t : Bool) → nat_lt replica.0 one.0.0 ≡ t → (s : Bool) → same_replica replica one.0 ≡ s → replicas_ascend (with_part noted replica part) ≡ true
-          → replicas_ascend (cond t ((replica, part) ∷ one ∷ noted) (cond s ((replica, part) ∷ noted) (one ∷ with_part noted replica part))) ≡ true
-      by_tests true lt s same more = ascends_after number_of nat_cmp_total replica.0 (one ∷ noted) (less_when replica.0 one.0.0 lt, below_lower number_of nat_cmp_total replica.0 one.0.0 noted (less_when replica.0 one.0.0 lt) below) h
-      by_tests false lt true same more = let e : replica.0 ≡ one.0.0 = eqb-true replica.0 one.0.0 same in subst (λ (n : ℕ). ascends_from number_of nat_cmp (Some n) noted ≡ true) (sym e) h
-      by_tests false lt false same more = ascends_after number_of nat_cmp_total one.0.0 (with_part noted replica part) (below-with_part one.0.0 noted replica part below (less_else one.0.0 replica.0 lt same)) more
+    by_tests : (t : Bool) → nat_lt replica.0 one.0.0 ≡ t → (s : Bool) → same_replica replica one.0 ≡ s → replicas_ascend (with_part noted replica part) ≡ true
+        → replicas_ascend (cond t ((replica, part) ∷ one ∷ noted) (cond s ((replica, part) ∷ noted) (one ∷ with_part noted replica part))) ≡ true
+    by_tests true lt s same more = ascends_after number_of nat_cmp_total replica.0 (one ∷ noted) (less_when replica.0 one.0.0 lt, below_lower number_of nat_cmp_total replica.0 one.0.0 noted (less_when replica.0 one.0.0 lt) below) h
+    by_tests false lt true same more = let e : replica.0 ≡ one.0.0 = eqb-true replica.0 one.0.0 same in subst (λ (n : ℕ). ascends_from number_of nat_cmp (Some n) noted ≡ true) (sym e) h
+    by_tests false lt false same more = ascends_after number_of nat_cmp_total one.0.0 (with_part noted replica part) (below-with_part one.0.0 noted replica part below (less_else one.0.0 replica.0 lt same)) more
 
 -- ---- parts merged one after another
 pub union_of-none : (part : PartValue) → union_of [] part ≡ part

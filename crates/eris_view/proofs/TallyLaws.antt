@@ -1,16 +1,16 @@
 -- What the tallies say of quorums.
-use Rattle.std.proofs.Common.{◌≡◌, ◌≤◌, ◌<◌, ◌+◌, ℕ, zero, suc, Bool, true, false, ◌&&◌, ◌==◌, nat_lt, cond, List, [], ◌∷◌, length, Some, max, refl, ap, sym, ◌∙◌, subst, arith, ◌⊎◌, inl, inr}
+use Rattle.std.proofs.Common.{◌≡◌, ◌≤◌, ◌<◌, ℕ, Bool, true, false, nat_lt, cond, List, [], ◌∷◌, Some, max, refl, ap, sym, subst, arith, inl, inr}
 use Rattle.std.proofs.lemmas.Bool.{and_parts, lt-ltb, ltb-true, eqb-true}
 use Rattle.std.proofs.lemmas.Cmp.{nat_cmp_total}
 use Rattle.std.proofs.lemmas.List.Sums.{length-filter}
 use Rattle.std.specs.List.{list_any}
 use Rattle.std.specs.Ordering.{nat_cmp}
-use Rattle.std.specs.Prelude.{nat_le, filter, map, count_by}
+use Rattle.std.specs.Prelude.{nat_le, filter, map}
 use Rattle.std.specs.declared.cmp.Ordering.TheVariants.{Less}
 use Rattle.eris_base.specs.declared.ids.ReplicaId.{ReplicaId}
 use Rattle.eris_base.specs.declared.ids.View.{View}
 use Rattle.eris_base.specs.Each.{Each}
-use Rattle.eris_base.specs.Quorums.{same_replica, different_replicas, are_quorum}
+use Rattle.eris_base.specs.Quorums.{same_replica, different_replicas}
 use Rattle.eris_log.specs.Growth.{OfOneShard}
 use Rattle.eris_log.specs.PartValues.{PartValue}
 use Rattle.eris_log.specs.Sorted.{ascends_from}
@@ -18,7 +18,7 @@ use Rattle.eris_log.specs.Laws.Sorted.{below_from, below_lower, ascends_tail, as
 use Rattle.eris_view.proofs.Acks.{Ack, le_from, not_le_from, IsSettled-settled}
 use Rattle.eris_view.proofs.NotedParts.{replicas_ascend-with_part}
 use Rattle.eris_view.proofs.Replicas.{number_of, IsBelow, less_when, less_else, different-new, in_order-filter, absent-filter}
-use Rattle.eris_view.specs.AckTallies.{AckTallyValue, no_acks, with_ack, note_length, how_many_have, quorum_has, settled}
+use Rattle.eris_view.specs.AckTallies.{AckTallyValue, with_ack, how_many_have, quorum_has, settled}
 use Rattle.eris_view.specs.Holders.{acks_ascend, holders, IsSharedByQuorum}
 use Rattle.eris_view.specs.ViewTallies.{ViewTallyValue, no_parts, with_part, note_part, replicas_of, is_ready}
 use Rattle.eris_view.specs.ViewTallyFacts.{IsViewTally, AreOfShard}
@@ -72,12 +72,12 @@ unfolding with_ack
 below-with_ack low [] replica len below less = (less, tt)
 below-with_ack low (ack ∷ acks) replica len below less =
     by_tests (nat_lt replica.0 ack.0.0) (same_replica replica ack.0) (below-with_ack low acks replica len below.1 less)
-    where
-      by_tests : (t s : Bool) → IsBelow low (with_ack acks replica len)
-          → IsBelow low (cond t ((replica, len) ∷ ack ∷ acks) (cond s ((replica, max ack.1 len) ∷ acks) (ack ∷ with_ack acks replica len)))
-      by_tests true s more = (less, below)
-      by_tests false true more = (less, below.1)
-      by_tests false false more = (below.0, more)
+  where
+    by_tests : (t s : Bool) → IsBelow low (with_ack acks replica len)
+        → IsBelow low (cond t ((replica, len) ∷ ack ∷ acks) (cond s ((replica, max ack.1 len) ∷ acks) (ack ∷ with_ack acks replica len)))
+    by_tests true s more = (less, below)
+    by_tests false true more = (less, below.1)
+    by_tests false false more = (below.0, more)
 
 -- what holds of each acknowledged length and of one more holds after it is noted
 pub each-with_ack : (Said : ReplicaId → ℕ → Type 0) (acks : List Ack) (replica : ReplicaId) (len : ℕ)
@@ -104,20 +104,20 @@ unfolding with_ack
 acks_ascend-with_ack [] replica len h = refl
 acks_ascend-with_ack (ack ∷ acks) replica len h =
     by_tests (nat_lt replica.0 ack.0.0) refl (same_replica replica ack.0) refl (acks_ascend-with_ack acks replica len (ascends_tail number_of nat_cmp_total ack acks h))
-    where
-      below : IsBelow ack.0.0 acks
-      below = below_from number_of nat_cmp_total ack.0.0 acks h
+  where
+    below : IsBelow ack.0.0 acks
+    below = below_from number_of nat_cmp_total ack.0.0 acks h
 
-      by_tests : (t : Bool) → nat_lt replica.0 ack.0.0 ≡ t → (s : Bool) → same_replica replica ack.0 ≡ s → acks_ascend (with_ack acks replica len) ≡ true
-          → acks_ascend (cond t ((replica, len) ∷ ack ∷ acks) (cond s ((replica, max ack.1 len) ∷ acks) (ack ∷ with_ack acks replica len))) ≡ true
-      by_tests true lt s same more =
-          let less = less_when replica.0 ack.0.0 lt in
-          ascends_after number_of nat_cmp_total replica.0 (ack ∷ acks) (less, below_lower number_of nat_cmp_total replica.0 ack.0.0 acks less below) h
-      by_tests false lt true same more =
-          let e : replica.0 ≡ ack.0.0 = eqb-true replica.0 ack.0.0 same in
-          subst (λ (n : ℕ). ascends_from number_of nat_cmp (Some n) acks ≡ true) (sym e) h
-      by_tests false lt false same more =
-          ascends_after number_of nat_cmp_total ack.0.0 (with_ack acks replica len) (below-with_ack ack.0.0 acks replica len below (less_else ack.0.0 replica.0 lt same)) more
+    by_tests : (t : Bool) → nat_lt replica.0 ack.0.0 ≡ t → (s : Bool) → same_replica replica ack.0 ≡ s → acks_ascend (with_ack acks replica len) ≡ true
+        → acks_ascend (cond t ((replica, len) ∷ ack ∷ acks) (cond s ((replica, max ack.1 len) ∷ acks) (ack ∷ with_ack acks replica len))) ≡ true
+    by_tests true lt s same more =
+        let less = less_when replica.0 ack.0.0 lt in
+        ascends_after number_of nat_cmp_total replica.0 (ack ∷ acks) (less, below_lower number_of nat_cmp_total replica.0 ack.0.0 acks less below) h
+    by_tests false lt true same more =
+        let e : replica.0 ≡ ack.0.0 = eqb-true replica.0 ack.0.0 same in
+        subst (λ (n : ℕ). ascends_from number_of nat_cmp (Some n) acks ≡ true) (sym e) h
+    by_tests false lt false same more =
+        ascends_after number_of nat_cmp_total ack.0.0 (with_ack acks replica len) (below-with_ack ack.0.0 acks replica len below (less_else ack.0.0 replica.0 lt same)) more
 
 -- a settled number that isn't 0 is at most the own length and the lengths of others, with whom the own replica,
 -- where it isn't among those that acknowledged, makes f+1 different ones
@@ -125,7 +125,7 @@ pub settled_is_shared_by_quorum : (tally : AckTallyValue) (own : ReplicaId) (own
     → list_any (λ ack. same_replica own ack.0) tally.acks ≡ false → 0 < settled tally own_length → IsSharedByQuorum tally own own_length (settled tally own_length)
 unfolding quorum_has how_many_have holders
 settled_is_shared_by_quorum tally own own_length h absent some = elim (IsSettled-settled tally own_length).shared as (λ _. IsSharedByQuorum tally own own_length number) [
-  inl none ↦ absurd (omega arith)
+  | inl none ↦ absurd (omega arith)
   | inr has ↦ shared has
 ]
   where

@@ -1,5 +1,5 @@
 -- A length for each replica, as a list of those that there are, and what a walk over them finds.
-use Rattle.std.specs.Prelude.{◌≡◌, ◌≤◌, ◌+◌, ℕ, Bool, false, true, ◌&&◌, nat_le, max, min, Option, Some, None, List, [], ◌∷◌, if◌then◌else◌}
+use Rattle.std.specs.Prelude.{◌≤◌, ◌+◌, ℕ, Bool, false, nat_le, max, min, Option, Some, None, List, [], ◌∷◌, if◌then◌else◌}
 use Rattle.eris_base.specs.declared.ids.ReplicaId.{ReplicaId}
 use Rattle.eris_view.specs.AckTallies.{AckTallyValue, how_many_have, IsSettled}
 

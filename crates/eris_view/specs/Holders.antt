@@ -1,5 +1,5 @@
 -- The replicas that have a number.
-use Rattle.std.specs.Prelude.{◌≡◌, ◌≤◌, ℕ, Bool, true, IsTrue, nat_le, List, ◌∷◌, map, filter}
+use Rattle.std.specs.Prelude.{◌≤◌, ℕ, Bool, IsTrue, nat_le, List, ◌∷◌, map, filter}
 use Rattle.std.specs.Ordering.{nat_cmp}
 use Rattle.eris_base.specs.declared.ids.ReplicaId.{ReplicaId}
 use Rattle.eris_base.specs.Quorums.{are_quorum}

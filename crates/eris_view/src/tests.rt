@@ -48,10 +48,7 @@ static ACKS: [(u8, [u8; 4], [u32; 4], u32, u32); 14] = [
     (3, [6, 5, 6, 6], [8, 2, 9, 0], 7, 0),
 ];
 
-fn is_ready(
-    alloc: Global,
-    row: &(u8, [u8; 4], usize, u8, bool),
-) -> Result<bool, NoMemory> {
+fn is_ready(alloc: Global, row: &(u8, [u8; 4], usize, u8, bool)) -> Result<bool, NoMemory> {
     let mut tally = ViewTally::new(alloc, View(3), row.0);
     for replica in row.1.iter().take(row.2) {
         let part = Part::new(alloc, Epoch(0), ShardId(0));

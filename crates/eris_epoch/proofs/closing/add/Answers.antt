@@ -1,5 +1,4 @@
-use Rattle.std.proofs.Common.{◌≡◌, ◌∙◌, ◌+◌, ◌∷◌, ◌++◌, [], ℕ, Bool, true, false, not, List, OnOk, length, take, drop, insert, refl, ap, sym, subst, arith, rules}
-use Rattle.eris_base.specs.declared.ids.Place.{Place}
+use Rattle.std.proofs.Common.{◌≡◌, ◌∙◌, OnOk, insert, sym, subst}
 use Rattle.eris_txn.specs.declared.packet.Packet.{Packet}
 use Rattle.eris_epoch.proofs.Additions.{with_packet-there, with_packet-new}
 use Rattle.eris_epoch.proofs.closing.add.Goals as goal

@@ -1,9 +1,8 @@
-use Rattle.std.proofs.Common.{◌≡◌, ◌∙◌, ◌+◌, ◌∷◌, ◌++◌, [], ℕ, Bool, true, false, not, List, OnOk, length, take, drop, insert, refl, ap, sym, subst, arith, rules}
-use Rattle.eris_base.specs.declared.ids.Place.{Place}
+use Rattle.std.proofs.Common.{◌∙◌, List, ap, sym}
 use Rattle.eris_txn.specs.declared.packet.Packet.{Packet}
 use Rattle.std.proofs.Common.{◌==◌}
 use Rattle.eris_base.specs.declared.ids.Epoch.{Epoch}
-use Rattle.eris_epoch.specs.Closing.{undropped, held_of}
+use Rattle.eris_epoch.specs.Closing.{undropped}
 use Rattle.eris_epoch.specs.ClosingSteps.{with_packets}
 use Rattle.eris_epoch.proofs.Additions.{packets_of, held_of-same, held_of-other, with_packets-no_packets, on_ok}
 use Rattle.eris_epoch.proofs.closing.add_part.Goals as goal

@@ -1,5 +1,4 @@
-use Rattle.std.proofs.Common.{◌≡◌, ◌∙◌, ◌+◌, ◌∷◌, ◌++◌, [], ℕ, Bool, true, false, not, List, OnOk, length, take, drop, insert, refl, ap, sym, subst, arith, rules}
-use Rattle.eris_base.specs.declared.ids.Place.{Place}
+use Rattle.std.proofs.Common.{◌∙◌, List, ap, sym, subst}
 use Rattle.eris_txn.specs.declared.packet.Packet.{Packet}
 use Rattle.eris_epoch.specs.ClosingSteps.{with_packets, AreByPlaces}
 use Rattle.eris_epoch.proofs.Additions.{undropped-dropped, undropped-kept, with_packets-none, with_packets-one, AreByPlaces-with_packet, on_ok}

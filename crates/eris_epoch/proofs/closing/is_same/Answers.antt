@@ -1,4 +1,3 @@
-use Rattle.std.proofs.Common.{◌≡◌, ◌∙◌, ◌+◌, ◌∷◌, ◌++◌, [], ℕ, Bool, true, false, not, List, OnOk, length, take, drop, insert, refl, ap, sym, subst, arith, rules}
 use Rattle.eris_epoch.proofs.SameLaws.{same_packet-exact}
 use Rattle.eris_epoch.proofs.closing.is_same.Goals as goal
 

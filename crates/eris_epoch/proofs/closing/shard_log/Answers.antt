@@ -1,5 +1,3 @@
-use Rattle.std.proofs.Common.{List}
-use Rattle.eris_txn.specs.declared.packet.Packet.{Packet}
 use Rattle.eris_epoch.specs.Closing.{shard_log}
 use Rattle.eris_epoch.specs.ClosingFacts.{IsShardLog}
 use Rattle.eris_epoch.proofs.Additions.{if_ok_from}

@@ -1,4 +1,4 @@
-use Rattle.std.proofs.Common.{◌≡◌, ◌∙◌, ◌+◌, ◌∷◌, ◌++◌, [], ℕ, Bool, true, false, not, List, OnOk, length, take, drop, insert, refl, ap, sym, subst, arith, rules}
+use Rattle.std.proofs.Common.{◌∙◌, List, take, ap, sym}
 use Rattle.std.proofs.lemmas.List.{take_rest}
 use Rattle.eris_txn.specs.declared.packet.Packet.{Packet}
 use Rattle.eris_epoch.specs.SamePackets.{is_listed}

@@ -1,5 +1,4 @@
-use Rattle.std.proofs.Common.{◌≡◌, ◌∙◌, ◌+◌, ◌∷◌, ◌++◌, [], ℕ, Bool, true, false, not, List, OnOk, length, take, drop, insert, refl, ap, sym, subst, arith, rules}
-use Rattle.eris_base.specs.declared.ids.Place.{Place}
+use Rattle.std.proofs.Common.{◌∙◌, List, ap}
 use Rattle.eris_txn.specs.declared.packet.Packet.{Packet}
 use Rattle.eris_epoch.specs.Closing.{undropped, held_in}
 use Rattle.eris_epoch.specs.ClosingSteps.{with_packets}

@@ -1,4 +1,4 @@
-use Rattle.std.proofs.Common.{◌≡◌, ◌∙◌, ◌+◌, ◌∷◌, ◌++◌, [], ℕ, Bool, true, false, not, List, OnOk, length, take, drop, insert, refl, ap, sym, subst, arith, rules}
+use Rattle.std.proofs.Common.{◌∙◌, sym}
 use Rattle.eris_epoch.proofs.Heard.{are_heard-none, are_heard-more, are_heard-not}
 use Rattle.eris_epoch.proofs.epoch_tally.all_are_heard.Goals as goal
 

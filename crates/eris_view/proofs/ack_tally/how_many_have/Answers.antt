@@ -1,4 +1,4 @@
-use Rattle.std.proofs.Common.{◌≡◌, arith}
+use Rattle.std.proofs.Common.{arith}
 use Rattle.std.proofs.lemmas.Grind.{common_steps}
 use Rattle.eris_view.proofs.Acks.{how_many_have-cells}
 use Rattle.eris_view.proofs.ack_tally.how_many_have.Goals as goal

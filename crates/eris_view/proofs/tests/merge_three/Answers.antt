@@ -1,4 +1,4 @@
-use Rattle.std.proofs.Common.{◌≡◌, sym, subst}
+use Rattle.std.proofs.Common.{sym, subst}
 use Rattle.eris_view.specs.ViewTallies.{ViewTallyValue}
 use Rattle.eris_view.specs.ViewTallyFacts.{AreOfShard}
 use Rattle.eris_view.proofs.TallyLaws.{AreOfShard-no_parts, AreOfShard-noted}

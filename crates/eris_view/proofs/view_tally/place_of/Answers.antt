@@ -1,5 +1,4 @@
-use Rattle.std.proofs.Common.{◌≡◌, ◌≤◌, ◌∙◌, ◌++◌, ℕ, ap, sym, subst, arith, length, take, drop, insert}
-use Rattle.eris_log.specs.PartValues.{PartValue}
+use Rattle.std.proofs.Common.{◌≡◌, ◌∙◌, ◌++◌, ap, sym, arith, length, take, drop}
 use Rattle.eris_view.specs.ViewTallies.{with_part}
 use Rattle.eris_view.proofs.NotedParts.{with_part-past, with_part-free, with_part-found, with_part-end}
 use Rattle.eris_view.proofs.Replicas.{is_lt-nat_lt}
@@ -24,10 +23,9 @@ loop-at-preserved c =
 
 pub returns-clause-free : goal.returns-clause-free
 returns-clause-free c =
-    let end : c.loop-at.at ≡ length c.args.noted.now = omega arith in
-    (
+    let end : c.loop-at.at ≡ length c.args.noted.now = omega arith in (
       omega arith,
       λ part. c.loop-at.invariant part
-      ∙ ap (λ at. take at c.args.noted.now ++ with_part (drop at c.args.noted.now) c.args.replica part) end
-      ∙ with_part-end c.args.noted.now c.args.replica part,
+          ∙ ap (λ at. take at c.args.noted.now ++ with_part (drop at c.args.noted.now) c.args.replica part) end
+          ∙ with_part-end c.args.noted.now c.args.replica part,
     )

@@ -1,5 +1,3 @@
-use Rattle.std.proofs.Common.{List}
-use Rattle.eris_txn.specs.declared.packet.Packet.{Packet}
 use Rattle.eris_epoch.specs.Closing.{close}
 use Rattle.eris_epoch.specs.ClosingFacts.{IsClosing}
 use Rattle.eris_epoch.specs.EpochTallies.{EpochTallyValue}

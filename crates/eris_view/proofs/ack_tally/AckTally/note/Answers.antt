@@ -1,4 +1,4 @@
-use Rattle.std.proofs.Common.{◌≡◌, ◌∙◌, ℕ, List, Some, set, ap, arith}
+use Rattle.std.proofs.Common.{◌∙◌, ℕ, List, Some, set, ap, arith}
 use Rattle.eris_base.specs.declared.ids.ReplicaId.{ReplicaId}
 use Rattle.eris_view.specs.AckCells.{acks_from}
 use Rattle.eris_view.specs.AckTallies.{AckTallyValue, note_length}

@@ -1,4 +1,3 @@
-use Rattle.std.proofs.Common.{◌≡◌}
 use Rattle.eris_view.proofs.Acks.{settled-unique}
 use Rattle.eris_view.proofs.ack_tally.AckTally.settled.Goals as goal
 
