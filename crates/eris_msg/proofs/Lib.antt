@@ -1,7 +1,9 @@
 mod BodyLaws
 mod Chain
+mod Cuts
 mod Decodes
 mod FieldLaws
+mod FrameLaws
 mod LastItems
 mod Laws
 mod MessageLaws
@@ -10,4 +12,6 @@ mod PartLaws
 mod PartOrder
 mod Sizes
 mod StampOrder
+mod Streams
 mod TagLaws
+mod Windows
