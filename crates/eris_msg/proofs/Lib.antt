@@ -1,17 +1,19 @@
 mod BodyLaws
 mod Chain
 mod Cuts
-mod Decodes
-mod FieldLaws
-mod FrameLaws
+pub mod Decodes
+pub mod FieldLaws
+pub mod FrameLaws
 mod LastItems
 mod Laws
+pub mod MessageFits
 mod MessageLaws
 mod NameBytes
 mod PartLaws
 mod PartOrder
+pub mod RangeLaws
 mod Sizes
 mod StampOrder
-mod Streams
+pub mod Streams
 mod TagLaws
 mod Windows

@@ -4,4 +4,5 @@ pub mod Fields
 pub mod Frames
 pub mod Messages
 pub mod Parts
+pub mod Ranges
 pub mod Spellings

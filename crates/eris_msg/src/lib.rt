@@ -25,3 +25,6 @@ pub use feed::{FrameFeed, pieces_join};
 pub use framing::{FrameFault, put_frame};
 pub use message::Message;
 pub use outgoing::Outgoing;
+
+#[cfg(test)]
+mod tests;
