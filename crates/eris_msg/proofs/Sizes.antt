@@ -54,7 +54,7 @@ pub few_places : (s : StampValue) → f.stamp.fits s ≡ true → length s.place
 unfolding f.stamp
 few_places s h = few 64 (length s.places) _ (omega arith) (right_of (f.epoch.fits s.epoch) _ h)
 
-word_below : (n : ℕ) → f.word.fits n ≡ true → n < 2 ^ 32
+pub word_below : (n : ℕ) → f.word.fits n ≡ true → n < 2 ^ 32
 unfolding f.word
 word_below n h = ltb-true _ _ h
 
@@ -62,7 +62,7 @@ pub many_places : (list : List (ShardId × ℕ)) → p.places.fits list ≡ true
 unfolding p.places
 many_places list h = word_below (length list) (left_of (f.word.fits (length list)) _ h)
 
-pairs_length : (list : List Place) → length (p.pairs_of list) ≡ length list
+pub pairs_length : (list : List Place) → length (p.pairs_of list) ≡ length list
 unfolding p.pairs_of
 pairs_length [] = refl
 pairs_length (place ∷ list) = ap suc (pairs_length list)
@@ -79,7 +79,7 @@ pub marks_spell : (list : List Place) → p.places.spell (p.pairs_of list) ≡ f
 unfolding p.places
 marks_spell list = rw (pairs_length list, marks_flat list) refl
 
-items_have : {X : Type 0} (item : List X → Codec X) (P : X → Type 0) → ((before : List X) (x : X) → (item before).fits x ≡ true → P x)
+pub items_have : {X : Type 0} (item : List X → Codec X) (P : X → Type 0) → ((before : List X) (x : X) → (item before).fits x ≡ true → P x)
     → (before : List X) (xs : List X) → items_fit item before xs ≡ true → AllByRecursion P xs
 items_have item P one before [] h = tt
 items_have item P one before (x ∷ xs) h =

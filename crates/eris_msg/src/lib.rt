@@ -5,6 +5,8 @@
 mod decoding;
 mod encoding;
 mod fault;
+mod feed;
+mod framing;
 mod input;
 mod message;
 mod outgoing;
@@ -19,5 +21,10 @@ mod write_messages;
 pub use decoding::decode;
 pub use encoding::{encode, spellings_differ};
 pub use fault::{DecodeFault, DecodeReason};
+pub use feed::{FrameFeed, pieces_join};
+pub use framing::{FrameFault, put_frame};
 pub use message::Message;
 pub use outgoing::Outgoing;
+
+#[cfg(test)]
+mod tests;
