@@ -92,7 +92,7 @@ has_counters-at config stampings shards at d h k lt =
 
 pub in_place-shards : (config : Config) (asker : ClientId) (id : TxnId) (body : Body) → is_in_place config asker id body ≡ true → are_shards_of config (participants_of body) ≡ true
 unfolding is_in_place
-in_place-shards config asker id body h = (and_parts _ _ (and_parts _ _ h).1).1
+in_place-shards config asker id body h = (and_parts _ _ (and_parts _ _ (and_parts _ _ h).1).1).0
 
 pub some_shard : (config : Config) (shards : List ShardId) → are_shards_of config shards ≡ true → nat_lt 0 (length shards) ≡ true
 unfolding are_shards_of
