@@ -1,6 +1,6 @@
 -- What holds of notes as they come and are forgotten.
 use Rattle.std.proofs.Common.{◌≡◌, ◌<◌, ◌≤◌, ◌+◌, ◌*◌, ℕ, zero, suc, Bool, true, false, not, ◌&&◌, ◌||◌, ◌==◌, nat_lt, cond, List, [], ◌∷◌, ◌++◌, map, IsTrue, refl, ap, sym, ◌∙◌, subst, arith, ◌⊎◌, inl, inr, ◌↔◌}
-use Rattle.std.proofs.lemmas.Bool.{and_parts, and_from, or_cases, or_left, or_right, ltb-true, lt-ltb, eqb-true, eq-eqb, cases_Bool, cond-true, cond-false}
+use Rattle.std.proofs.lemmas.Bool.{and_parts, and_from, or_cases, or_left, or_right, ltb-true, eqb-true, eq-eqb, cases_Bool}
 use Rattle.std.proofs.lemmas.Bool.Decides.{nat_tests}
 use Rattle.std.proofs.lemmas.List.{map-append}
 use Rattle.std.proofs.lemmas.List.Elements.{filter-append}
@@ -16,7 +16,7 @@ use Rattle.eris_log.specs.Places.{same_place}
 use Rattle.eris_log.specs.Laws.Places.{same_place-true}
 use Rattle.eris_drop.specs.declared.drop_note.DropNote.{DropNote}
 use Rattle.eris_drop.specs.Notes.{same_note, has_note, note, forget, is_noted_in, noted_replicas, is_drop_quorum, has_drop_quorum, decided, HasDropQuorum, IsDecided}
-use Rattle.eris_drop.proofs.QuorumLaws.{AreBelow, is_listed, replica, quorum-more, quorums_meet}
+use Rattle.eris_drop.proofs.QuorumLaws.{AreBelow, replica, quorum-more, quorums_meet}
 
 -- the note of a replica
 abbrev pub note_of : Place → ShardId → ReplicaId → View → DropNote

@@ -1,20 +1,17 @@
 -- What a message changes: nothing, or it is an ask and one sequencer stamps one packet.
-use Rattle.std.proofs.Common.{◌≡◌, ◌≢◌, ◌<◌, ◌≤◌, ◌+◌, ◌-◌, ◌^◌, ℕ, zero, suc, Bool, true, false, not, ◌&&◌, ◌||◌, ◌==◌, nat_lt, cond, Option, Some, None, List, [], ◌∷◌, ◌++◌, length, get_or, refl, ap, sym, ◌∙◌, subst, arith, ◌⊎◌, inl, inr}
+use Rattle.std.proofs.Common.{◌≡◌, ◌≢◌, Bool, true, false, cond, Option, Some, None, List, [], refl, ◌⊎◌, inl, inr}
 use Rattle.std.specs.Prelude.{slice_set, slice_get}
-use Rattle.std.proofs.lemmas.Bool.{and_parts, and_from, cases_Bool, cond-true, cond-false}
 use Rattle.eris_base.specs.declared.config.Config.{Config}
 use Rattle.eris_base.specs.declared.ids.ClientId.{ClientId}
 use Rattle.eris_base.specs.declared.ids.Epoch.{Epoch}
 use Rattle.eris_base.specs.declared.ids.TxnId.{TxnId}
 use Rattle.eris_txn.specs.declared.body.Body.{Body}
-use Rattle.eris_txn.specs.declared.packet.Packet.{Packet}
 use Rattle.eris_txn.specs.Bodies.{participants_of}
 use Rattle.eris_msg.specs.declared.message.Message.{Message}
-use Rattle.eris_msg.specs.declared.message.Message.TheVariants.{Ask, Txn, Vouch, Reply, Late, Find, Request, Has, TempDropped, Found, Dropped, ViewChange, StartView, SyncAsk, Ack, Settled, NewEpoch, EpochAsk, EpochState, StartEpoch}
-use Rattle.eris_msg.specs.declared.outgoing.Outgoing.{Outgoing}
+use Rattle.eris_msg.specs.declared.message.Message.TheVariants.{Ask}
 use Rattle.eris_sequencer.specs.declared.stamping.Stamping.{Stamping}
 use Rattle.eris_sequencer.specs.Asks.{Asked, sends_of, sends_stamped, stamp_message, asked_by, ask}
-use Rattle.eris_sequencer.specs.Sequencers.{is_in_place, Stamped, stamp_at, no_stamp, stamp_by, stamp}
+use Rattle.eris_sequencer.specs.Sequencers.{is_in_place, stamp_at, no_stamp, stamp_by, stamp}
 use Rattle.eris_sequencer.specs.Stamps.{is_full, next_packet, stamped_next}
 
 -- nothing happens

@@ -1,5 +1,5 @@
 -- Within an epoch the numbers of a shard rise from packet to packet, so a number of a shard names one packet.
-use Rattle.std.proofs.Common.{◌≡◌, ◌≢◌, ◌<◌, ◌≤◌, ◌+◌, ℕ, zero, suc, Bool, true, false, ◌&&◌, ◌||◌, ◌==◌, cond, Option, Some, None, List, [], ◌∷◌, ◌++◌, length, get_or, refl, ap, sym, ◌∙◌, subst, arith, ◌⊎◌, inl, inr}
+use Rattle.std.proofs.Common.{◌≡◌, ◌<◌, ◌≤◌, ◌+◌, ℕ, zero, suc, Bool, true, false, ◌||◌, ◌==◌, cond, Option, Some, None, List, [], ◌∷◌, ◌++◌, length, get_or, refl, ap, sym, ◌∙◌, subst, arith, ◌⊎◌, inl, inr}
 use Rattle.std.specs.Prelude.{slice_set, slice_get, find}
 use Rattle.std.specs.Option.{option_map}
 use Rattle.std.proofs.lemmas.Bool.{eqb-true, cases_order}
@@ -20,9 +20,9 @@ use Rattle.eris_msg.specs.declared.message.Message.{Message}
 use Rattle.eris_sequencer.specs.declared.stamping.Stamping.{Stamping}
 use Rattle.eris_sequencer.specs.SequencerValues.{SequencerValue}
 use Rattle.eris_sequencer.specs.Asks.{ask}
-use Rattle.eris_sequencer.specs.Sequencers.{new_stamping, first_stampings, replace, is_in_place, are_shards_of}
+use Rattle.eris_sequencer.specs.Sequencers.{new_stamping, first_stampings, replace}
 use Rattle.eris_sequencer.specs.StampingFacts.{AreStampings}
-use Rattle.eris_sequencer.specs.Stamps.{new_sequencer, counter_of, next_places, with_numbers, has_counters, next_stamp, next_packet, after_stamp, stamped_next, AreRaised}
+use Rattle.eris_sequencer.specs.Stamps.{counter_of, next_places, with_numbers, has_counters, next_stamp, next_packet, after_stamp, stamped_next, AreRaised}
 use Rattle.eris_sequencer.proofs.AskLaws.{unchanged, IsStamped, ask-cases}
 use Rattle.eris_sequencer.proofs.SequencerLaws.{has_counters-at, in_place-shards}
 use Rattle.eris_sequencer.proofs.StampLaws.{AreRaised-next}
@@ -130,9 +130,9 @@ module _ (stamping : Stamping) (id : TxnId) (asker : ClientId) (body : Body) (co
   AreNumbered-stamped numbered =
       record {
         counted = Each-append (IsCounted raised) stamping.stamped (more ∷ [])
-        (Each-weaker (IsCounted stamping.sequencer.counters) (IsCounted raised) still_counted stamping.stamped numbered.counted) (more_counted, tt);
+            (Each-weaker (IsCounted stamping.sequencer.counters) (IsCounted raised) still_counted stamping.stamped numbered.counted) (more_counted, tt);
         rising = EachAfter-more (λ before packet. Each (IsAbove packet) before) [] stamping.stamped more numbered.rising
-        (Each-weaker (IsCounted stamping.sequencer.counters) (IsAbove more) above stamping.stamped numbered.counted);
+            (Each-weaker (IsCounted stamping.sequencer.counters) (IsAbove more) above stamping.stamped numbered.counted);
         of_epoch = Each-append (λ packet. packet.stamp.epoch ≡ stamping.sequencer.epoch) stamping.stamped (more ∷ []) numbered.of_epoch (refl, tt);
       }
 

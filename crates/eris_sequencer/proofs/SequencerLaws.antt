@@ -1,10 +1,10 @@
 -- What the sequencers of all epochs keep, and what an ask changes.
-use Rattle.std.proofs.Common.{◌≡◌, ◌≢◌, ◌<◌, ◌≤◌, ◌+◌, ◌-◌, ◌^◌, ℕ, zero, suc, Bool, true, false, ◌&&◌, ◌||◌, ◌==◌, nat_lt, cond, Option, Some, None, List, [], ◌∷◌, ◌++◌, map, fold, take, replicate, length, get_or, refl, ap, sym, ◌∙◌, subst, arith, ◌⊎◌, inl, inr}
+use Rattle.std.proofs.Common.{◌≡◌, ◌≢◌, ◌<◌, ◌≤◌, ◌+◌, ◌-◌, ◌^◌, ℕ, zero, suc, Bool, true, false, ◌==◌, nat_lt, cond, Some, List, [], ◌∷◌, ◌++◌, replicate, length, get_or, refl, ap, sym, ◌∙◌, subst, arith, ◌⊎◌, inl, inr}
 use Rattle.std.specs.Prelude.{slice_set, slice_get}
-use Rattle.std.proofs.lemmas.Bool.{and_parts, and_from, or_parts, ltb-true, lt-ltb, eqb-true, eqb-false, eq-eqb, cases_Bool}
+use Rattle.std.proofs.lemmas.Bool.{and_parts, and_from, or_parts, ltb-true, lt-ltb, eqb-true, eqb-false, eq-eqb}
 use Rattle.std.proofs.lemmas.List.{length-set, set-get_or, length-replicate, length-append, append-nil}
 use Rattle.std.proofs.lemmas.Option.{slice_get-get_or, slice_get_past, slice_get_within, get_or_from_slice_get}
-use Rattle.std.specs.List.{list_any, list_all}
+use Rattle.std.specs.List.{list_all}
 use Rattle.eris_base.specs.declared.config.Config.{Config}
 use Rattle.eris_base.specs.declared.ids.ClientId.{ClientId}
 use Rattle.eris_base.specs.declared.ids.Epoch.{Epoch}
@@ -13,12 +13,11 @@ use Rattle.eris_base.specs.declared.ids.TxnId.{TxnId}
 use Rattle.eris_txn.specs.declared.body.Body.{Body}
 use Rattle.eris_txn.specs.Bodies.{participants_of}
 use Rattle.eris_sequencer.specs.declared.stamping.Stamping.{Stamping}
-use Rattle.eris_sequencer.specs.SequencerValues.{SequencerValue}
 use Rattle.eris_msg.specs.declared.message.Message.{Message}
 use Rattle.eris_msg.specs.declared.message.Message.TheVariants.{Ask}
 use Rattle.eris_msg.specs.declared.outgoing.Outgoing.{Outgoing}
 use Rattle.eris_sequencer.specs.Asks.{Asked, sends_of, sends_stamped, stamp_message, asked_by, ask}
-use Rattle.eris_sequencer.specs.Sequencers.{newest_of, new_stamping, first_stampings, replace, stamped_in, packets_of, are_shards_of, is_in_place, Stamped, stamp_at, no_stamp, stamp_by, stamp}
+use Rattle.eris_sequencer.specs.Sequencers.{newest_of, new_stamping, first_stampings, replace, stamped_in, packets_of, are_shards_of, is_in_place, stamp_at, no_stamp, stamp_by, stamp}
 use Rattle.eris_sequencer.specs.StampingFacts.{is_sequencer, are_from, AreStampings, AddsAtMostOne}
 use Rattle.eris_sequencer.specs.Stamps.{new_sequencer, counter_of, next_places, with_numbers, is_full, has_counters, next_packet, after_stamp, stamped_next}
 use Rattle.eris_sequencer.proofs.AskLaws.{unchanged, unstamped, IsStamped, ask-cases}
@@ -93,7 +92,7 @@ has_counters-at config stampings shards at d h k lt =
 
 pub in_place-shards : (config : Config) (asker : ClientId) (id : TxnId) (body : Body) → is_in_place config asker id body ≡ true → are_shards_of config (participants_of body) ≡ true
 unfolding is_in_place
-in_place-shards config asker id body h = (and_parts _ _ (and_parts _ _ h).1).1
+in_place-shards config asker id body h = (and_parts _ _ (and_parts _ _ (and_parts _ _ h).1).1).0
 
 pub some_shard : (config : Config) (shards : List ShardId) → are_shards_of config shards ≡ true → nat_lt 0 (length shards) ≡ true
 unfolding are_shards_of

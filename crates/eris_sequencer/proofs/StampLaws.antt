@@ -1,14 +1,14 @@
 -- What one stamping does to the counters.
-use Rattle.std.proofs.Common.{◌≡◌, ◌≢◌, ◌<◌, ◌≤◌, ◌+◌, ◌-◌, ◌^◌, ℕ, zero, suc, Bool, true, false, ◌&&◌, ◌||◌, ◌==◌, nat_lt, cond, Option, Some, None, List, [], ◌∷◌, map, fold, take, replicate, length, get_or, refl, ap, sym, ◌∙◌, subst, arith, ◌⊎◌, inl, inr}
+use Rattle.std.proofs.Common.{◌≡◌, ◌<◌, ◌≤◌, ◌+◌, ◌-◌, ◌^◌, ℕ, zero, suc, Bool, true, false, ◌||◌, ◌==◌, nat_lt, cond, Option, Some, None, List, [], ◌∷◌, map, take, replicate, length, get_or, refl, ap, sym, ◌∙◌, subst, arith, ◌⊎◌, inl, inr}
 use Rattle.std.specs.Prelude.{slice_set}
-use Rattle.std.proofs.lemmas.Bool.{and_parts, and_from, or_cases, or_left, or_right, or_from, or_parts, ltb-true, lt-ltb, eqb-true, eqb-false, eq-eqb, cases_Bool}
+use Rattle.std.proofs.lemmas.Bool.{and_parts, and_from, ltb-true, lt-ltb, eqb-true, eqb-false, eq-eqb, cases_Bool}
 use Rattle.std.proofs.lemmas.Bool.Decides.{nat_tests}
-use Rattle.std.proofs.lemmas.List.{take-replicate, length-set, length-map, get_or-set_same, get_or-set_other, take-set-le, set_past}
+use Rattle.std.proofs.lemmas.List.{take-replicate, length-set, get_or-set_same, get_or-set_other, take-set-le, set_past}
 use Rattle.std.proofs.Math.Seq.{take-set-lt}
 use Rattle.std.proofs.lemmas.List.Folds.{list_any_at}
-use Rattle.std.specs.List.{list_any, list_all}
+use Rattle.std.specs.List.{list_all}
 use Rattle.eris_base.specs.declared.ids.ShardId.{ShardId}
-use Rattle.eris_base.specs.Places.{is_later, are_stamp_places, ascends_from as places_ascend_from}
+use Rattle.eris_base.specs.Places.{are_stamp_places, ascends_from as places_ascend_from}
 use Rattle.eris_txn.specs.Bodies.{ascends_from, has_shard}
 use Rattle.eris_sequencer.specs.Stamps.{counter_of, next_places, with_numbers, is_full, has_counters, AreRaised}
 

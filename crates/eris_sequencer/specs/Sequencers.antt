@@ -1,5 +1,5 @@
 -- The sequencers of all epochs: a list in which the one of epoch e stands at index e.
-use Rattle.std.specs.Prelude.{◌-◌, Bool, ◌&&◌, nat_lt, Option, Some, None, List, [], ◌∷◌, ◌++◌, length, slice_get, slice_set, if◌then◌else◌}
+use Rattle.std.specs.Prelude.{◌-◌, Bool, true, ◌&&◌, nat_lt, Option, Some, None, List, [], ◌∷◌, ◌++◌, length, slice_get, slice_set, if◌then◌else◌}
 use Rattle.std.specs.List.{list_all}
 use Rattle.eris_base.specs.declared.config.Config.{Config}
 use Rattle.eris_base.specs.declared.ids.ClientId.{ClientId}
@@ -7,6 +7,7 @@ use Rattle.eris_base.specs.declared.ids.Epoch.{Epoch}
 use Rattle.eris_base.specs.declared.ids.ShardId.{ShardId}
 use Rattle.eris_base.specs.declared.ids.TxnId.{TxnId}
 use Rattle.eris_txn.specs.declared.body.Body.{Body}
+use Rattle.eris_txn.specs.declared.body.Body.TheVariants.{Independent, Prelim, Commit, Abort}
 use Rattle.eris_txn.specs.declared.packet.Packet.{Packet}
 use Rattle.eris_txn.specs.Bodies.{participants_of}
 use Rattle.eris_sequencer.specs.declared.stamping.Stamping.{Stamping}
@@ -41,10 +42,18 @@ stamped_in stampings epoch = packets_of (slice_get stampings epoch.0)
 unfoldable pub are_shards_of : Config → List ShardId → Bool
 are_shards_of config shards = nat_lt 0 (length shards) && list_all (λ shard. nat_lt shard.0 config.shards) shards
 
+-- what a commit writes is on shards of the config
+abbrev pub are_writes_of : Config → Body → Bool
+are_writes_of config (Independent operations) = true
+are_writes_of config (Prelim locks) = true
+are_writes_of config (Commit keys writes) = list_all (λ write. nat_lt write.key.shard.0 config.shards) writes
+are_writes_of config (Abort keys) = true
+
 -- an ask names clients and shards of the config, and at least one shard
 unfoldable pub is_in_place : Config → ClientId → TxnId → Body → Bool
 is_in_place config asker id body =
-    nat_lt asker.0 config.clients && (nat_lt id.client.0 config.clients && are_shards_of config (participants_of body))
+    nat_lt asker.0 config.clients
+    && (nat_lt id.client.0 config.clients && (are_shards_of config (participants_of body) && are_writes_of config body))
 
 -- what an ask comes to: the sequencers after it, and the packet, where one was stamped
 pub record Stamped : Type 0 where

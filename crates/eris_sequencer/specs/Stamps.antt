@@ -55,7 +55,7 @@ pub record AreRaised (before after : List ℕ) (shards : List ShardId) : Type 0 
   pub length : length after ≡ length before
   pub at : (shard : ShardId) → counter_of after shard ≡ (if has_shard shards shard then counter_of before shard + 1 else counter_of before shard)
 
--- the sequencer that stands in for a list of one epoch each has stamped a body, and keeps the packet
+-- one epoch's sequencer has stamped a body, and the packet stands at the end of its list
 unfoldable pub stamped_next : Stamping → TxnId → ClientId → Body → Stamping
 stamped_next stamping id asker body =
     record {

@@ -3,7 +3,7 @@ ghost use Rattle.std.specs.Prelude.{◌≡◌, ◌≤◌, ◌&&◌, [], IsTrue, 
 ghost use Rattle.std.specs.List.{list_all};
 ghost use Rattle.eris_txn.specs.Bodies.{participants_of};
 ghost use Rattle.eris_sequencer.specs.Asks.{sends_of, asked_by, ask};
-ghost use Rattle.eris_sequencer.specs.Sequencers.{are_shards_of, is_in_place, stamp, stamp_by};
+ghost use Rattle.eris_sequencer.specs.Sequencers.{are_shards_of, are_writes_of, is_in_place, stamp, stamp_by};
 ghost use Rattle.eris_sequencer.specs.StampingFacts.{are_from, AreStampings, AddsAtMostOne};
 ghost use Rattle.eris_sequencer.specs.Stamps.{is_full, has_counters, next_packet, stamped_next};
 
@@ -12,7 +12,7 @@ use crate::stamp_fault::StampFault;
 use crate::stamping::Stamping;
 use eris_base::{ClientId, Config, Epoch, NoMemory, Row, ShardId, TxnId};
 use eris_msg::{Message, Outgoing};
-use eris_txn::{Body, participants};
+use eris_txn::{Body, Write, participants};
 use std::alloc::Global;
 
 /// Stamps what an ask names; another message does nothing.
@@ -52,22 +52,40 @@ fn take_ask(
         ≡ asked_by config.now (stamp config.now stampings.old.items epoch asker id body)) }
 {
     let shards = participants(alloc, &body)?;
-    if is_in_place(config, asker, id, shards.as_slice()) {
+    if is_in_place(config, asker, id, shards.as_slice(), &body) {
         take_at(alloc, config, stampings, epoch, asker, id, body)
     } else {
         Ok(Row::new(alloc))
     }
 }
 
-/// Whether an ask on these shards names clients and shards of the config, and at least one shard.
+/// Whether an ask of a body on these shards names clients and shards of the config, and at least one shard.
 #[tactic(auto, unfolding(crate::specs::Sequencers::are_shards_of))]
-fn is_in_place(config: &Config, asker: ClientId, id: TxnId, shards: &[ShardId]) -> bool
-    ensures { result ≡ (nat_lt asker.0 config.now.clients && (nat_lt id.client.0 config.now.clients && are_shards_of config.now shards.now)) }
+fn is_in_place(config: &Config, asker: ClientId, id: TxnId, shards: &[ShardId], body: &Body) -> bool
+    ensures { result ≡ (nat_lt asker.0 config.now.clients && (nat_lt id.client.0 config.now.clients
+        && (are_shards_of config.now shards.now && are_writes_of config.now body.now))) }
 {
     asker.0 < config.clients()
         && id.client.0 < config.clients()
         && !shards.is_empty()
         && are_below(shards, config.shards())
+        && writes_are_below(body, config.shards())
+}
+
+/// Whether all that a commit writes is on shards below the limit.
+fn writes_are_below(body: &Body, limit: u8) -> bool
+    ensures { (config : Config) → config.shards ≡ limit → result ≡ are_writes_of config body.now }
+{
+    match body {
+        Body::Commit(_, writes) => all_below(writes.as_slice(), limit),
+        _ => true,
+    }
+}
+
+fn all_below(writes: &[Write], limit: u8) -> bool
+    ensures { result ≡ list_all (λ write. nat_lt write.key.shard.0 limit) writes.now }
+{
+    writes.iter().all(|write| write.key.shard.0 < limit)
 }
 
 fn are_below(shards: &[ShardId], limit: u8) -> bool

@@ -1,4 +1,4 @@
-use Rattle.std.proofs.Common.{◌≡◌, rules}
+use Rattle.std.proofs.Common.{rules}
 use Rattle.eris_drop.specs.Notes.{decided}
 use Rattle.eris_drop.proofs.DropLaws.{decided_says}
 use Rattle.eris_drop.proofs.quorums.is_decided.Goals as goal

@@ -1,4 +1,4 @@
-use Rattle.std.proofs.Common.{◌≡◌, ◌<◌, ◌≤◌, length, IfOk, OnOk, Result, Ok, Err, List, arith, refl, sym, ◌∙◌}
+use Rattle.std.proofs.Common.{◌<◌, ◌≤◌, length, IfOk, OnOk, Result, Ok, Err, List, arith, refl, sym, ◌∙◌}
 use Rattle.std.proofs.lemmas.Grind.{common_steps}
 use Rattle.eris_base.specs.declared.no_memory.NoMemory.{NoMemory}
 use Rattle.eris_msg.specs.declared.outgoing.Outgoing.{Outgoing}

@@ -1,4 +1,4 @@
-use Rattle.std.proofs.Common.{◌≡◌, IfOk, OnOk, Result, Ok, Err, List, refl, sym, ◌∙◌, subst}
+use Rattle.std.proofs.Common.{IfOk, OnOk, Result, Ok, Err, List, refl, sym, ◌∙◌}
 use Rattle.eris_base.specs.declared.no_memory.NoMemory.{NoMemory}
 use Rattle.eris_msg.specs.declared.outgoing.Outgoing.{Outgoing}
 use Rattle.eris_sequencer.proofs.AskLaws.{unasked}
