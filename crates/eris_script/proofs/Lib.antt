@@ -2,3 +2,4 @@ pub mod DecimalLaws
 mod DigitLemmas
 mod LineLemmas
 mod ReadLemmas
+pub mod WordCuts

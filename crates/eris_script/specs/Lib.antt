@@ -1,4 +1,8 @@
+pub mod Cuts
 pub mod Decimal
+pub mod Fields
+pub mod FixedWords
+pub mod Forms
 pub mod HistoryText
 pub mod OpText
 pub mod OrderText

@@ -3,10 +3,12 @@
 #![tactic(auto)]
 
 mod event;
+mod fixed_words;
 mod header;
 mod history_text;
 mod line;
 mod line_fault;
+mod line_words;
 mod number;
 mod op_text;
 mod order_text;
