@@ -53,8 +53,15 @@ unfoldable pub dotted : ℕ → ℕ → Form (ℕ × ℕ)
 dotted first second =
     one_word reason.Number dotted_word (read_dotted first second) (λ p. nat_le p.0 first && nat_le p.1 second)
 
+abbrev pub pair_words : ℕ → ℕ → ℕ → List (List ℕ)
+pair_words version a b = if version == 1 then decimal a ∷ decimal b ∷ [] else dotted_word (a, b) ∷ []
+
 unfoldable pub two_numbers : ℕ → ℕ → ℕ → Form (ℕ × ℕ)
-two_numbers version first second = if version == 1 then two_words first second else dotted first second
+two_numbers version first second = record {
+  spell = λ p. pair_words version p.0 p.1;
+  read = λ words. if version == 1 then (two_words first second).read words else (dotted first second).read words;
+  fits = λ p. nat_le p.0 first && nat_le p.1 second;
+}
 
 -- the identity of a transaction: its client, and its number there
 unfoldable pub txn : ℕ → Form TxnId

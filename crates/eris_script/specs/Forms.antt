@@ -1,6 +1,6 @@
 -- A form says how a value is written in the words of a line, how it is read from them, and which values are written so. Words are
 -- read from the left, and the first one that doesn't fit tells why the line is refused.
-use Rattle.std.specs.Prelude.{◌≡◌, ⊤, ℕ, zero, suc, Bool, ◌&&◌, Option, Some, None, Result, Ok, Err, List, [], ◌∷◌, ◌++◌, length, bytes_eq, codes, if◌then◌else◌}
+use Rattle.std.specs.Prelude.{◌≡◌, ⊤, ℕ, zero, suc, Bool, false, ◌&&◌, Option, Some, None, Result, Ok, Err, List, [], ◌∷◌, ◌++◌, length, bytes_eq, codes, if◌then◌else◌}
 use Rattle.eris_script.specs.declared.line_fault.LineFault.{LineFault}
 use Rattle.eris_script.specs.declared.line_fault.LineFault.TheVariants as fault
 use Rattle.eris_script.specs.declared.reason.Reason.{Reason}
@@ -76,14 +76,21 @@ ended (x, word ∷ words) = Err End
 abbrev pub whole : {X : Type 0} → Form X → List (List ℕ) → Result X Reason
 whole c words = c.read words >>= ended
 
+-- this word, and then those that are answered
+abbrev pub expect : List ℕ → List (List ℕ) → Result (List (List ℕ)) Reason
+expect text words = next_word words >>= λ w. if bytes_eq w.0 text then Ok w.1 else Err Word
+
+-- whether this word is the next
+abbrev pub is_next : List ℕ → List (List ℕ) → Bool
+is_next text [] = false
+is_next text (word ∷ words) = bytes_eq word text
+
 -- more of a kind to the end of the line, each behind a `;`. There are at most as many as there are words.
 abbrev pub more_items : {X : Type 0} → Form X → ℕ → List (List ℕ) → Result (List X) Reason
 more_items item most [] = Ok []
 more_items item zero (word ∷ words) = Err End
 more_items item (suc most) (word ∷ words) =
-    if bytes_eq word (codes ";")
-    then (item.read words >>= λ x. more_items item most x.1 >>= λ xs. Ok (x.0 ∷ xs))
-    else Err Word
+    expect (codes ";") (word ∷ words) >>= λ behind. item.read behind >>= λ x. more_items item most x.1 >>= λ xs. Ok (x.0 ∷ xs)
 
 abbrev pub more : {X : Type 0} → Form X → List (List ℕ) → Result (List X) Reason
 more item words = more_items item (length words) words

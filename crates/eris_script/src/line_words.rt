@@ -1,7 +1,7 @@
-ghost use Rattle.std.specs.Prelude.{◌≡◌, ◌==◌, ◌≤◌, [], ◌∷◌, drop, length, MatchOption};
+ghost use Rattle.std.specs.Prelude.{◌≡◌, ◌==◌, ◌<◌, ◌≤◌, [], ◌∷◌, drop, length, IfErr, MatchOption, OnOk};
 ghost use Rattle.std.specs.List.{position};
 ghost use Rattle.eris_script.specs.Cuts.{is_space, words};
-ghost use Rattle.eris_script.specs.Forms.{Gives, next_word};
+ghost use Rattle.eris_script.specs.Forms.{Gives, expect, is_next, next_word};
 
 use crate::line_fault::LineFault;
 use crate::reason::Reason;
@@ -59,6 +59,42 @@ impl<'a> LineWords<'a> {
         ensures { result ≡ (length self.now == 0) }
     {
         self.ended
+    }
+
+    /// Whether this word is the next.
+    pub(crate) fn is_at(&self, word: &[u8]) -> bool
+        ensures { result ≡ is_next word.now self.now }
+    {
+        if self.ended {
+            return false;
+        }
+        match first_cut(self.text) {
+            Some((first, _)) => first == word,
+            None => self.text == word,
+        }
+    }
+
+    /// Passes over this word.
+    pub(crate) fn expect(&mut self, word: &[u8]) -> Result<(), LineFault>
+        ensures { Gives (λ _. self.new) result (expect word.now self.old) }
+    {
+        if self.next()? == word {
+            Ok(())
+        } else {
+            Err(LineFault::Bad(Reason::Word))
+        }
+    }
+
+    /// Whether the line ends here.
+    pub(crate) fn end(&self) -> Result<(), LineFault>
+        ensures ok { OnOk result (self.now ≡ []) }
+        ensures err { IfErr result (λ fault. (fault ≡ LineFault.Bad Reason.End) × (0 < length self.now)) }
+    {
+        if self.is_at_end() {
+            Ok(())
+        } else {
+            Err(LineFault::Bad(Reason::End))
+        }
     }
 }
 
