@@ -1,12 +1,15 @@
 -- A form reads what it spells, and nothing else; and no word that it spells has a space.
-use Rattle.std.proofs.Common.{◌≡◌, ℕ, zero, suc, ◌+◌, ◌-◌, ◌<◌, ◌≤◌, Bool, true, false, not, cond, ◌&&◌, bytes_eq, codes, Option, Some, None, Result, Ok, Err, List, [], ◌∷◌, ◌++◌, length, refl, sym, ap, subst, ◌∙◌, append-nil, append_assoc, arith}
+use Rattle.std.proofs.Common.{◌≡◌, ℕ, zero, suc, ◌+◌, ◌-◌, ◌<◌, ◌≤◌, Bool, true, false, not, cond, ◌==◌, ◌&&◌, bytes_eq, codes, Option, Some, None, Result, Ok, Err, List, [], ◌∷◌, ◌++◌, length, refl, sym, ap, subst, ◌∙◌, append-nil, append_assoc, arith}
 use Rattle.std.specs.List.{flat_map, list_all}
 use Rattle.std.proofs.lemmas.List.{length-append}
 use Rattle.std.proofs.lemmas.Slice.Eq.{bytes_eq-Decides}
+use Rattle.std.proofs.lemmas.List.Concat.{flat_map-cons}
+use Rattle.eris_script.specs.declared.line_fault.LineFault.{LineFault}
+use Rattle.eris_script.specs.declared.line_fault.LineFault.TheVariants as fault
 use Rattle.eris_script.specs.declared.reason.Reason.{Reason}
 use Rattle.eris_script.specs.declared.reason.Reason.TheVariants.{Word}
 use Rattle.eris_script.specs.Cuts.{is_space}
-use Rattle.eris_script.specs.Forms.{Form, Read, ◌>>=◌, next_word, said, one_word, pair, named, arm, led, ended, whole, expect, more_items, more}
+use Rattle.eris_script.specs.Forms.{Form, Read, ◌>>=◌, next_word, said, one_word, pair, named, arm, led, ended, whole, expect, more_items, more, Refuses}
 
 abbrev pub is_plain : List ℕ → Bool
 is_plain word = list_all (λ byte. not (is_space byte)) word
@@ -212,10 +215,112 @@ expect_ok text words behind read =
     guard_ok true some other read = (refl, ok_is some other read)
     guard_ok false some other read = absurd cc
 
+pub bind_same : {A B : Type 0} (r : Result A Reason) (some others : A → Result B Reason) → ((x : A) → r ≡ Ok x → some x ≡ others x) → (r >>= some) ≡ (r >>= others)
+bind_same (Ok x) some others same = same x refl
+bind_same (Err reason) some others same = refl
+
+-- what was read before, and what is still read
+abbrev pub with_front : {X : Type 0} → List X → Result (List X) Reason → Result (List X) Reason
+with_front front read = read >>= λ xs. Ok (front ++ xs)
+
+pub regrouped : {X : Type 0} (front : List X) (x : X) (read : Result (List X) Reason) →
+    with_front front (read >>= λ xs. Ok (x ∷ xs)) ≡ with_front (front ++ x ∷ []) read
+regrouped {X = X} front x (Ok xs) = ap (λ (all : List X). Ok all) (sym (append_assoc front (x ∷ []) xs))
+regrouped front x (Err reason) = refl
+
 module _ {X : Type 0} (item : Form X) (h : IsForm item) where
   -- more than enough is as good
-  pub enough : (n m : ℕ) (words : List (List ℕ)) → length words ≤ n → length words ≤ m → more_items item n words ≡ more_items item m words
+  enough : (n m : ℕ) (words : List (List ℕ)) → length words ≤ n → length words ≤ m → more_items item n words ≡ more_items item m words
   enough n m [] some others = refl
   enough zero m (word ∷ words) some others = absurd (omega arith)
   enough (suc n) zero (word ∷ words) some others = absurd (omega arith)
-  enough (suc n) (suc m) (word ∷ words) some others = ?
+  enough (suc n) (suc m) (word ∷ words) some others =
+      bind_same (expect (codes ";") (word ∷ words))
+      (λ behind. item.read behind >>= λ x. more_items item n x.1 >>= λ xs. Ok (x.0 ∷ xs))
+      (λ behind. item.read behind >>= λ x. more_items item m x.1 >>= λ xs. Ok (x.0 ∷ xs))
+      (λ behind found. bind_same (item.read behind)
+          (λ x. more_items item n x.1 >>= λ xs. Ok (x.0 ∷ xs))
+          (λ x. more_items item m x.1 >>= λ xs. Ok (x.0 ∷ xs))
+          (λ x read.
+              let same : length (word ∷ words) ≡ suc (length behind) = ap (λ (z : List (List ℕ)). length z) (expect_ok (codes ";") (word ∷ words) behind found) in
+              let fewer = no_longer item h behind x.0 x.1 read in
+              ap (λ r. r >>= λ xs. Ok (x.0 ∷ xs)) (enough n m x.1 (omega arith) (omega arith))))
+
+  one_more : (behind after : List (List ℕ)) (x : X) → item.read behind ≡ Ok (x, after) →
+      more item (codes ";" ∷ behind) ≡ (more item after >>= λ xs. Ok (x ∷ xs))
+  one_more behind after x read =
+      let fewer = no_longer item h behind x after read in
+      ap (λ r. r >>= λ y. more_items item (length behind) y.1 >>= λ xs. Ok (y.0 ∷ xs)) read
+      ∙ ap (λ r. r >>= λ xs. Ok (x ∷ xs)) (enough (length behind) (length after) after fewer (omega arith))
+
+  pub goes_on : (front : List X) (words behind after : List (List ℕ)) (x : X) (total : Result (List X) Reason) →
+      expect (codes ";") words ≡ Ok behind → item.read behind ≡ Ok (x, after) → with_front front (more item words) ≡ total →
+      with_front (front ++ x ∷ []) (more item after) ≡ total
+  goes_on front words behind after x total found read so_far =
+      sym (regrouped front x (more item after))
+      ∙ ap (λ r. with_front front r) (sym (one_more behind after x read))
+      ∙ ap (λ (z : List (List ℕ)). with_front front (more item z)) (sym (expect_ok (codes ";") words behind found))
+      ∙ so_far
+
+  pub is_shorter : (words behind after : List (List ℕ)) (x : X) → expect (codes ";") words ≡ Ok behind → item.read behind ≡ Ok (x, after) → length after < length words
+  is_shorter words behind after x found read =
+      let same : length words ≡ suc (length behind) = ap (λ (z : List (List ℕ)). length z) (expect_ok (codes ";") words behind found) in
+      let fewer = no_longer item h behind x after read in
+      omega arith
+
+  pub ends_before : (front : List X) (words : List (List ℕ)) (stop : LineFault) (total : Result (List X) Reason) → (length words == 0) ≡ false →
+      Refuses stop (expect (codes ";") words) → with_front front (more item words) ≡ total → Refuses stop total
+  ends_before front [] stop total some refused so_far = absurd cc
+  ends_before front (word ∷ words) (fault.Bad reason) total some refused so_far =
+      sym so_far ∙ ap (λ r. with_front front (r >>= λ behind. item.read behind >>= λ x. more_items item (length words) x.1 >>= λ xs. Ok (x.0 ∷ xs))) refused
+  ends_before front (word ∷ words) fault.NoMemory total some refused so_far = tt
+
+  pub ends_within : (front : List X) (words behind : List (List ℕ)) (stop : LineFault) (total : Result (List X) Reason) →
+      expect (codes ";") words ≡ Ok behind → Refuses stop (item.read behind) → with_front front (more item words) ≡ total → Refuses stop total
+  ends_within front words behind (fault.Bad reason) total found refused so_far =
+      sym so_far
+      ∙ ap (λ (z : List (List ℕ)). with_front front (more item z)) (expect_ok (codes ";") words behind found)
+      ∙ ap (λ r. with_front front (r >>= λ x. more_items item (length behind) x.1 >>= λ xs. Ok (x.0 ∷ xs))) refused
+  ends_within front words behind fault.NoMemory total found refused so_far = tt
+
+  pub is_all : (front : List X) (words : List (List ℕ)) (total : Result (List X) Reason) → length words ≡ 0 → with_front front (more item words) ≡ total → total ≡ Ok front
+  is_all front [] total none so_far = sym so_far ∙ ap (λ (xs : List X). Ok xs) (append-nil front)
+  is_all front (word ∷ words) total none so_far = absurd (omega arith)
+
+  abbrev pub behind_each : List X → List (List ℕ)
+  behind_each xs = flat_map (λ x. codes ";" ∷ item.spell x) xs
+
+  pub record AllTaken (words : List (List ℕ)) (xs : List X) : Type 0 where
+    pub parts : words ≡ behind_each xs
+    pub fits : list_all item.fits xs ≡ true
+
+  pub more_takes : (n : ℕ) (words : List (List ℕ)) (xs : List X) → more_items item n words ≡ Ok xs → AllTaken words xs
+  more_takes n [] xs read = subst (λ (z : List X). AllTaken [] z) (ok_is [] xs read) (record { parts = refl; fits = refl })
+  more_takes zero (word ∷ words) xs read = absurd cc
+  more_takes (suc n) (word ∷ words) xs read =
+      let a = bind_ok (expect (codes ";") (word ∷ words)) (λ behind. item.read behind >>= λ x. more_items item n x.1 >>= λ xs. Ok (x.0 ∷ xs)) xs read in
+      let b = bind_ok (item.read a.0) (λ x. more_items item n x.1 >>= λ xs. Ok (x.0 ∷ xs)) xs a.2 in
+      let c = bind_ok (more_items item n b.0.1) (λ xs. Ok (b.0.0 ∷ xs)) xs b.2 in
+      let t = h.takes a.0 b.0.0 b.0.1 b.1 in
+      let u = more_takes n b.0.1 c.0 c.1 in
+      let made : AllTaken (word ∷ words) (b.0.0 ∷ c.0) = record {
+        parts = expect_ok (codes ";") (word ∷ words) a.0 a.1
+            ∙ ap (λ (z : List (List ℕ)). codes ";" ∷ z) (t.parts ∙ ap (λ (z : List (List ℕ)). item.spell b.0.0 ++ z) u.parts)
+            ∙ sym (flat_map-cons (λ x. codes ";" ∷ item.spell x) b.0.0 c.0);
+        fits = both (item.fits b.0.0) (list_all item.fits c.0) t.fits u.fits;
+      } in
+      subst (λ (z : List X). AllTaken (word ∷ words) z) (ok_is (b.0.0 ∷ c.0) xs c.2) made
+
+  pub more_again : (xs : List X) → list_all item.fits xs ≡ true → more item (behind_each xs) ≡ Ok xs
+  more_again [] fine = refl
+  more_again (x ∷ xs) fine =
+      ap (λ (z : List (List ℕ)). more item z) (flat_map-cons (λ x. codes ";" ∷ item.spell x) x xs)
+      ∙ one_more (item.spell x ++ behind_each xs) (behind_each xs) x (h.again x (behind_each xs) (left_of (item.fits x) (list_all item.fits xs) fine))
+      ∙ ap (λ r. r >>= λ xs. Ok (x ∷ xs)) (more_again xs (right_of (item.fits x) (list_all item.fits xs) fine))
+
+  pub each_plain : (xs : List X) → list_all item.fits xs ≡ true → are_plain (behind_each xs) ≡ true
+  each_plain [] fine = refl
+  each_plain (x ∷ xs) fine =
+      ap are_plain (flat_map-cons (λ x. codes ";" ∷ item.spell x) x xs)
+      ∙ plain-append (item.spell x) (behind_each xs) (h.plain x (left_of (item.fits x) (list_all item.fits xs) fine))
+      (each_plain xs (right_of (item.fits x) (list_all item.fits xs) fine))

@@ -27,7 +27,7 @@ fn byte_of(high: u8, low: u8) -> Option<u8>
 }
 
 // Bytes as pairs of digits.
-#[tactic(auto, using(crate::proofs::HexLaws::pair_steps))]
+#[tactic(auto, using(crate::proofs::HexSteps::pair_steps))]
 fn read_pairs(alloc: Global, digits: &[u8]) -> Result<Row<u8>, LineFault>
     ensures { Gives (λ bytes. bytes) result (said (field.read_pairs digits.now) reason.Hex) }
 {

@@ -1,4 +1,4 @@
-use Rattle.eris_script.proofs.HexLaws.{pair_read}
+use Rattle.eris_script.proofs.HexSteps.{pair_read}
 use Rattle.eris_script.proofs.hex.read_pairs.Goals as goal
 
 pub loop-high-preserved : goal.loop-high-preserved
