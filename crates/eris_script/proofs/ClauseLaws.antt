@@ -1,6 +1,8 @@
 -- A clause of a plan is read as just what it spells.
 use Rattle.std.proofs.Common.{◌≡◌, ℕ, true, List, [], ◌∷◌, ◌++◌, codes, Ok, refl}
 use Rattle.eris_txn.specs.declared.plan.Guard.{Guard}
+use Rattle.eris_txn.specs.declared.key.Key.{Key}
+use Rattle.eris_txn.specs.declared.plan.How.{How}
 use Rattle.eris_txn.specs.declared.plan.How.TheVariants.{Put, Plus, Minus}
 use Rattle.eris_txn.specs.declared.plan.Setting.{Setting}
 use Rattle.eris_script.specs.declared.clause.Clause.{Clause}
@@ -30,13 +32,14 @@ clause_takes version w.Plus = arm_takes (pair (key version) value) (set_to Plus)
 clause_takes version w.Minus = arm_takes (pair (key version) value) (set_to Minus) clause_words (fits_clause version) (codes "minus" ∷ [])
     (is_key_and_value version) (λ _. refl) (λ _. refl)
 
-setting_led : (version : ℕ) (s : Setting) → fits_clause version (clause.Setting s) ≡ true → Led clause_word (clause_behind version) clause_words (clause.Setting s)
+setting_led : (version : ℕ) (k : Key) (how : How) → fits_clause version (clause.Setting (record { key = k; how = how })) ≡ true →
+    Led clause_word (clause_behind version) clause_words (clause.Setting (record { key = k; how = how }))
 unfolding clause_behind clause_word key value number
-setting_led version (record { key = k; how = Put n }) fine =
+setting_led version k (Put n) fine =
     arm_led clause_word (clause_behind version) clause_words w.Set (pair (key version) value) (set_to Put) (k, n) (is_key_and_value version) refl (λ _. refl) refl fine
-setting_led version (record { key = k; how = Plus n }) fine =
+setting_led version k (Plus n) fine =
     arm_led clause_word (clause_behind version) clause_words w.Plus (pair (key version) value) (set_to Plus) (k, n) (is_key_and_value version) refl (λ _. refl) refl fine
-setting_led version (record { key = k; how = Minus n }) fine =
+setting_led version k (Minus n) fine =
     arm_led clause_word (clause_behind version) clause_words w.Minus (pair (key version) value) (set_to Minus) (k, n) (is_key_and_value version) refl (λ _. refl) refl fine
 
 clause_led : (version : ℕ) (x : Clause) → fits_clause version x ≡ true → Led clause_word (clause_behind version) clause_words x
@@ -44,7 +47,7 @@ unfolding clause_behind clause_word key value number
 clause_led version (clause.Guard g) fine =
     arm_led clause_word (clause_behind version) clause_words w.Guard (pair (key version) value) (λ p. clause.Guard (record { key = p.0; least = p.1 })) (g.key, g.least)
     (is_key_and_value version) refl (λ _. refl) refl fine
-clause_led version (clause.Setting s) fine = setting_led version s fine
+clause_led version (clause.Setting s) fine = setting_led version s.key s.how fine
 
 pub is_clause : (version : ℕ) → IsForm (clause_form version)
 unfolding clause_form

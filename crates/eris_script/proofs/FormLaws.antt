@@ -9,7 +9,7 @@ use Rattle.eris_script.specs.declared.line_fault.LineFault.TheVariants as fault
 use Rattle.eris_script.specs.declared.reason.Reason.{Reason}
 use Rattle.eris_script.specs.declared.reason.Reason.TheVariants.{Word}
 use Rattle.eris_script.specs.Cuts.{is_space}
-use Rattle.eris_script.specs.Forms.{Form, Read, ◌>>=◌, next_word, said, one_word, pair, named, arm, led, ended, whole, expect, more_items, more, Refuses}
+use Rattle.eris_script.specs.Forms.{Form, Read, ◌>>=◌, next_word, said, one_word, pair, named, arm, led, ended, whole, expect, next_item, more_items, more, Refuses}
 
 abbrev pub is_plain : List ℕ → Bool
 is_plain word = list_all (λ byte. not (is_space byte)) word
@@ -229,59 +229,55 @@ regrouped {X = X} front x (Ok xs) = ap (λ (all : List X). Ok all) (sym (append_
 regrouped front x (Err reason) = refl
 
 module _ {X : Type 0} (item : Form X) (h : IsForm item) where
+  pub record NextTaken (words : List (List ℕ)) (x : X) (after : List (List ℕ)) : Type 0 where
+    pub parts : words ≡ codes ";" ∷ (item.spell x ++ after)
+    pub fits : item.fits x ≡ true
+    pub fewer : length after < length words
+
+  pub next_takes : (words : List (List ℕ)) (x : X) (after : List (List ℕ)) → next_item item words ≡ Ok (x, after) → NextTaken words x after
+  next_takes words x after read =
+      let a = bind_ok (expect (codes ";") words) item.read (x, after) read in
+      let t = h.takes a.0 x after a.2 in
+      let front = expect_ok (codes ";") words a.0 a.1 in
+      let same : length words ≡ suc (length a.0) = ap (λ (z : List (List ℕ)). length z) front in
+      let fewer = no_longer item h a.0 x after a.2 in
+      record { parts = front ∙ ap (λ (z : List (List ℕ)). codes ";" ∷ z) t.parts; fits = t.fits; fewer = omega arith }
+
   -- more than enough is as good
   enough : (n m : ℕ) (words : List (List ℕ)) → length words ≤ n → length words ≤ m → more_items item n words ≡ more_items item m words
   enough n m [] some others = refl
   enough zero m (word ∷ words) some others = absurd (omega arith)
   enough (suc n) zero (word ∷ words) some others = absurd (omega arith)
   enough (suc n) (suc m) (word ∷ words) some others =
-      bind_same (expect (codes ";") (word ∷ words))
-      (λ behind. item.read behind >>= λ x. more_items item n x.1 >>= λ xs. Ok (x.0 ∷ xs))
-      (λ behind. item.read behind >>= λ x. more_items item m x.1 >>= λ xs. Ok (x.0 ∷ xs))
-      (λ behind found. bind_same (item.read behind)
-          (λ x. more_items item n x.1 >>= λ xs. Ok (x.0 ∷ xs))
-          (λ x. more_items item m x.1 >>= λ xs. Ok (x.0 ∷ xs))
-          (λ x read.
-              let same : length (word ∷ words) ≡ suc (length behind) = ap (λ (z : List (List ℕ)). length z) (expect_ok (codes ";") (word ∷ words) behind found) in
-              let fewer = no_longer item h behind x.0 x.1 read in
-              ap (λ r. r >>= λ xs. Ok (x.0 ∷ xs)) (enough n m x.1 (omega arith) (omega arith))))
+      bind_same (next_item item (word ∷ words))
+      (λ x. more_items item n x.1 >>= λ xs. Ok (x.0 ∷ xs))
+      (λ x. more_items item m x.1 >>= λ xs. Ok (x.0 ∷ xs))
+      (λ x read.
+          let t = next_takes (word ∷ words) x.0 x.1 read in
+          let fewer = t.fewer in
+          ap (λ r. r >>= λ xs. Ok (x.0 ∷ xs)) (enough n m x.1 (omega arith) (omega arith)))
 
-  one_more : (behind after : List (List ℕ)) (x : X) → item.read behind ≡ Ok (x, after) →
-      more item (codes ";" ∷ behind) ≡ (more item after >>= λ xs. Ok (x ∷ xs))
-  one_more behind after x read =
-      let fewer = no_longer item h behind x after read in
-      ap (λ r. r >>= λ y. more_items item (length behind) y.1 >>= λ xs. Ok (y.0 ∷ xs)) read
-      ∙ ap (λ r. r >>= λ xs. Ok (x ∷ xs)) (enough (length behind) (length after) after fewer (omega arith))
+  pub one_more : (words after : List (List ℕ)) (x : X) → next_item item words ≡ Ok (x, after) → more item words ≡ (more item after >>= λ xs. Ok (x ∷ xs))
+  one_more [] after x read = absurd cc
+  one_more (word ∷ words) after x read =
+      let t = next_takes (word ∷ words) x after read in
+      let fewer = t.fewer in
+      ap (λ r. r >>= λ y. more_items item (length words) y.1 >>= λ xs. Ok (y.0 ∷ xs)) read
+      ∙ ap (λ r. r >>= λ xs. Ok (x ∷ xs)) (enough (length words) (length after) after (omega arith) (omega arith))
 
-  pub goes_on : (front : List X) (words behind after : List (List ℕ)) (x : X) (total : Result (List X) Reason) →
-      expect (codes ";") words ≡ Ok behind → item.read behind ≡ Ok (x, after) → with_front front (more item words) ≡ total →
-      with_front (front ++ x ∷ []) (more item after) ≡ total
-  goes_on front words behind after x total found read so_far =
-      sym (regrouped front x (more item after))
-      ∙ ap (λ r. with_front front r) (sym (one_more behind after x read))
-      ∙ ap (λ (z : List (List ℕ)). with_front front (more item z)) (sym (expect_ok (codes ";") words behind found))
-      ∙ so_far
+  pub none_more : (words : List (List ℕ)) (why : Reason) → (length words == 0) ≡ false → next_item item words ≡ Err why → more item words ≡ Err why
+  none_more [] why some refused = absurd cc
+  none_more (word ∷ words) why some refused = ap (λ r. r >>= λ x. more_items item (length words) x.1 >>= λ xs. Ok (x.0 ∷ xs)) refused
 
-  pub is_shorter : (words behind after : List (List ℕ)) (x : X) → expect (codes ";") words ≡ Ok behind → item.read behind ≡ Ok (x, after) → length after < length words
-  is_shorter words behind after x found read =
-      let same : length words ≡ suc (length behind) = ap (λ (z : List (List ℕ)). length z) (expect_ok (codes ";") words behind found) in
-      let fewer = no_longer item h behind x after read in
-      omega arith
+  pub goes_on : (front : List X) (words after : List (List ℕ)) (x : X) (total : Result (List X) Reason) →
+      next_item item words ≡ Ok (x, after) → with_front front (more item words) ≡ total → with_front (front ++ x ∷ []) (more item after) ≡ total
+  goes_on front words after x total read so_far =
+      sym (regrouped front x (more item after)) ∙ ap (with_front front) (sym (one_more words after x read)) ∙ so_far
 
-  pub ends_before : (front : List X) (words : List (List ℕ)) (stop : LineFault) (total : Result (List X) Reason) → (length words == 0) ≡ false →
-      Refuses stop (expect (codes ";") words) → with_front front (more item words) ≡ total → Refuses stop total
-  ends_before front [] stop total some refused so_far = absurd cc
-  ends_before front (word ∷ words) (fault.Bad reason) total some refused so_far =
-      sym so_far ∙ ap (λ r. with_front front (r >>= λ behind. item.read behind >>= λ x. more_items item (length words) x.1 >>= λ xs. Ok (x.0 ∷ xs))) refused
-  ends_before front (word ∷ words) fault.NoMemory total some refused so_far = tt
-
-  pub ends_within : (front : List X) (words behind : List (List ℕ)) (stop : LineFault) (total : Result (List X) Reason) →
-      expect (codes ";") words ≡ Ok behind → Refuses stop (item.read behind) → with_front front (more item words) ≡ total → Refuses stop total
-  ends_within front words behind (fault.Bad reason) total found refused so_far =
-      sym so_far
-      ∙ ap (λ (z : List (List ℕ)). with_front front (more item z)) (expect_ok (codes ";") words behind found)
-      ∙ ap (λ r. with_front front (r >>= λ x. more_items item (length behind) x.1 >>= λ xs. Ok (x.0 ∷ xs))) refused
-  ends_within front words behind fault.NoMemory total found refused so_far = tt
+  pub ends_within : (front : List X) (words : List (List ℕ)) (stop : LineFault) (total : Result (List X) Reason) → (length words == 0) ≡ false →
+      Refuses stop (next_item item words) → with_front front (more item words) ≡ total → Refuses stop total
+  ends_within front words (fault.Bad why) total some refused so_far = sym so_far ∙ ap (with_front front) (none_more words why some refused)
+  ends_within front words fault.NoMemory total some refused so_far = tt
 
   pub is_all : (front : List X) (words : List (List ℕ)) (total : Result (List X) Reason) → length words ≡ 0 → with_front front (more item words) ≡ total → total ≡ Ok front
   is_all front [] total none so_far = sym so_far ∙ ap (λ (xs : List X). Ok xs) (append-nil front)
@@ -298,15 +294,13 @@ module _ {X : Type 0} (item : Form X) (h : IsForm item) where
   more_takes n [] xs read = subst (λ (z : List X). AllTaken [] z) (ok_is [] xs read) (record { parts = refl; fits = refl })
   more_takes zero (word ∷ words) xs read = absurd cc
   more_takes (suc n) (word ∷ words) xs read =
-      let a = bind_ok (expect (codes ";") (word ∷ words)) (λ behind. item.read behind >>= λ x. more_items item n x.1 >>= λ xs. Ok (x.0 ∷ xs)) xs read in
-      let b = bind_ok (item.read a.0) (λ x. more_items item n x.1 >>= λ xs. Ok (x.0 ∷ xs)) xs a.2 in
+      let b = bind_ok (next_item item (word ∷ words)) (λ x. more_items item n x.1 >>= λ xs. Ok (x.0 ∷ xs)) xs read in
       let c = bind_ok (more_items item n b.0.1) (λ xs. Ok (b.0.0 ∷ xs)) xs b.2 in
-      let t = h.takes a.0 b.0.0 b.0.1 b.1 in
+      let t = next_takes (word ∷ words) b.0.0 b.0.1 b.1 in
       let u = more_takes n b.0.1 c.0 c.1 in
+      let each : behind_each (b.0.0 ∷ c.0) ≡ codes ";" ∷ (item.spell b.0.0 ++ behind_each c.0) = flat_map-cons (λ x. codes ";" ∷ item.spell x) b.0.0 c.0 in
       let made : AllTaken (word ∷ words) (b.0.0 ∷ c.0) = record {
-        parts = expect_ok (codes ";") (word ∷ words) a.0 a.1
-            ∙ ap (λ (z : List (List ℕ)). codes ";" ∷ z) (t.parts ∙ ap (λ (z : List (List ℕ)). item.spell b.0.0 ++ z) u.parts)
-            ∙ sym (flat_map-cons (λ x. codes ";" ∷ item.spell x) b.0.0 c.0);
+        parts = t.parts ∙ ap (λ (z : List (List ℕ)). codes ";" ∷ (item.spell b.0.0 ++ z)) u.parts ∙ sym each;
         fits = both (item.fits b.0.0) (list_all item.fits c.0) t.fits u.fits;
       } in
       subst (λ (z : List X). AllTaken (word ∷ words) z) (ok_is (b.0.0 ∷ c.0) xs c.2) made
@@ -315,7 +309,7 @@ module _ {X : Type 0} (item : Form X) (h : IsForm item) where
   more_again [] fine = refl
   more_again (x ∷ xs) fine =
       ap (λ (z : List (List ℕ)). more item z) (flat_map-cons (λ x. codes ";" ∷ item.spell x) x xs)
-      ∙ one_more (item.spell x ++ behind_each xs) (behind_each xs) x (h.again x (behind_each xs) (left_of (item.fits x) (list_all item.fits xs) fine))
+      ∙ one_more (codes ";" ∷ (item.spell x ++ behind_each xs)) (behind_each xs) x (h.again x (behind_each xs) (left_of (item.fits x) (list_all item.fits xs) fine))
       ∙ ap (λ r. r >>= λ xs. Ok (x ∷ xs)) (more_again xs (right_of (item.fits x) (list_all item.fits xs) fine))
 
   pub each_plain : (xs : List X) → list_all item.fits xs ≡ true → are_plain (behind_each xs) ≡ true

@@ -85,12 +85,16 @@ abbrev pub is_next : List ℕ → List (List ℕ) → Bool
 is_next text [] = false
 is_next text (word ∷ words) = bytes_eq word text
 
--- more of a kind to the end of the line, each behind a `;`. There are at most as many as there are words.
+-- one more of a kind, behind a `;`
+abbrev pub next_item : {X : Type 0} → Form X → List (List ℕ) → Read X
+next_item item words = expect (codes ";") words >>= item.read
+
+-- more of a kind to the end of the line. There are at most as many as there are words.
 abbrev pub more_items : {X : Type 0} → Form X → ℕ → List (List ℕ) → Result (List X) Reason
 more_items item most [] = Ok []
 more_items item zero (word ∷ words) = Err End
 more_items item (suc most) (word ∷ words) =
-    expect (codes ";") (word ∷ words) >>= λ behind. item.read behind >>= λ x. more_items item most x.1 >>= λ xs. Ok (x.0 ∷ xs)
+    next_item item (word ∷ words) >>= λ x. more_items item most x.1 >>= λ xs. Ok (x.0 ∷ xs)
 
 abbrev pub more : {X : Type 0} → Form X → List (List ℕ) → Result (List X) Reason
 more item words = more_items item (length words) words

@@ -99,11 +99,15 @@ planned version keys guards settings =
     if nat_lt (most version) (length keys) || nat_lt (most version) (length guards) then Err reason.TooMany
     else unless_fault (plan_fault keys guards settings) (record { keys = keys; guards = guards; settings = settings })
 
+-- clauses, each behind a `;`
+unfoldable pub all_clauses : ℕ → List (List ℕ) → Result (List Guard × List Setting) Reason
+all_clauses version words = more (clause_form version) words >>= λ clauses. Ok (guards_in clauses, settings_in clauses)
+
 -- `lock K`, further keys, and clauses behind a `;` each
 unfoldable pub plan_of : ℕ → List (List ℕ) → Result PlanValue Reason
 plan_of version words =
-    expect (codes "lock") words >>= λ behind. all_keys version behind >>= λ keys. more (clause_form version) keys.1 >>= λ clauses.
-    planned version keys.0 (guards_in clauses) (settings_in clauses)
+    expect (codes "lock") words >>= λ behind. all_keys version behind >>= λ keys. all_clauses version keys.1 >>= λ rows.
+    planned version keys.0 rows.0 rows.1
 
 abbrev pub is_plan : ℕ → PlanValue → Bool
 is_plan version plan =
