@@ -4,6 +4,7 @@ pub mod EventText
 pub mod Fields
 pub mod FixedWords
 pub mod Forms
+pub mod Headers
 pub mod HistoryText
 pub mod LineForms
 pub mod OpForms

@@ -67,7 +67,7 @@ unfoldable pub deliver_of : List (List ℕ) → Result Event Reason
 deliver_of words = count.read words >>= λ packet. epoch_of packet.1 >>= λ e. Ok (event.Deliver packet.0 e)
 
 -- a replica's timer, or its end
-unfoldable pub at_replica : (ShardId → ReplicaId → Event) → ℕ → List (List ℕ) → Result Event Reason
+abbrev pub at_replica : (ShardId → ReplicaId → Event) → ℕ → List (List ℕ) → Result Event Reason
 at_replica made version words = whole (replica version) words >>= λ r. Ok (made r.0 r.1)
 
 unfoldable pub noise_of : ℕ → List (List ℕ) → Result Event Reason

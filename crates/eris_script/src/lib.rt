@@ -9,6 +9,7 @@ mod event_line;
 mod fields;
 mod fixed_words;
 mod header;
+mod header_line;
 mod hex;
 mod history_text;
 mod line;
@@ -29,6 +30,7 @@ mod words;
 
 pub use event::Event;
 pub use header::Header;
+pub use header_line::parse_header;
 pub use line::Line;
 pub use line_fault::LineFault;
 pub use number::{append_decimal, read_number};

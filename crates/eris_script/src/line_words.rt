@@ -34,22 +34,32 @@ impl<'a> LineWords<'a> {
     }
 
     /// The next word, which is lent from the line.
-    pub(crate) fn next(&mut self) -> Result<&'a [u8], LineFault>
-        ensures { Gives (λ word. (word.now, self.new)) result (next_word self.old) }
+    pub(crate) fn pop(&mut self) -> Option<&'a [u8]>
+        ensures { MatchOption result (self.old ≡ []) (λ word. self.old ≡ word.now ∷ self.new) }
     {
         if self.ended {
-            return Err(LineFault::Bad(Reason::End));
+            return None;
         }
         let text = self.text;
         match first_cut(text) {
             Some((word, rest)) => {
                 self.text = rest;
-                Ok(word)
+                Some(word)
             }
             None => {
                 self.ended = true;
-                Ok(text)
+                Some(text)
             }
+        }
+    }
+
+    /// The next word; `End` where there is none.
+    pub(crate) fn next(&mut self) -> Result<&'a [u8], LineFault>
+        ensures { Gives (λ word. (word.now, self.new)) result (next_word self.old) }
+    {
+        match self.pop() {
+            Some(word) => Ok(word),
+            None => Err(LineFault::Bad(Reason::End)),
         }
     }
 
