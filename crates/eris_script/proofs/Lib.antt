@@ -8,7 +8,10 @@ pub mod HexLaws
 pub mod HexSteps
 pub mod KeySteps
 mod LineLemmas
+pub mod NodeLaws
+pub mod PlanLaws
 mod ReadLemmas
+pub mod SplitLaws
 pub mod OpLaws
 pub mod TableLaws
 pub mod WordCuts

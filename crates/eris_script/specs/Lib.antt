@@ -15,4 +15,5 @@ pub mod PlanText
 pub mod Reasons
 pub mod ReplicaText
 pub mod ReportText
+pub mod Spelling
 pub mod Words

@@ -6,6 +6,7 @@ mod clause;
 mod cut;
 mod event;
 mod event_line;
+mod event_text;
 mod fields;
 mod fixed_words;
 mod header;
@@ -29,6 +30,7 @@ mod report_text;
 mod words;
 
 pub use event::Event;
+pub use event_text::print_event;
 pub use header::Header;
 pub use header_line::parse_header;
 pub use line::Line;
