@@ -248,3 +248,6 @@ key_as_word version = record {
 pub is_key : (version : ℕ) → IsForm (key version)
 unfolding key
 is_key version = is_one_word reason.Key key_word (read_key version) _ (key_as_word version)
+
+pub key_read : (version : ℕ) (k : Key) → (nat_le k.shard.0 (last_shard version) && is_name k.name) ≡ true → read_key version (key_word k) ≡ Some k
+key_read version = (key_as_word version).again

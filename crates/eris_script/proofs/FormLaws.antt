@@ -48,7 +48,7 @@ next_ok : (words : List (List ℕ)) (w : List ℕ × List (List ℕ)) → next_w
 next_ok [] w read = absurd cc
 next_ok (word ∷ words) w read = let same : (word, words) ≡ w = ok_is (word, words) w read in ap (λ (p : List ℕ × List (List ℕ)). p.0 ∷ p.1) same
 
-plain-append : (xs ys : List (List ℕ)) → are_plain xs ≡ true → are_plain ys ≡ true → are_plain (xs ++ ys) ≡ true
+pub plain-append : (xs ys : List (List ℕ)) → are_plain xs ≡ true → are_plain ys ≡ true → are_plain (xs ++ ys) ≡ true
 plain-append [] ys left right = right
 plain-append (x ∷ xs) ys left right =
     both (is_plain x) (are_plain (xs ++ ys)) (left_of (is_plain x) (are_plain xs) left)
@@ -205,7 +205,7 @@ no_longer c h words x rest read =
     let sum : length words ≡ length (c.spell x) + length rest = ap (λ (z : List (List ℕ)). length z) t.parts ∙ length-append (c.spell x) rest in
     omega arith
 
-expect_ok : (text : List ℕ) (words behind : List (List ℕ)) → expect text words ≡ Ok behind → words ≡ text ∷ behind
+pub expect_ok : (text : List ℕ) (words behind : List (List ℕ)) → expect text words ≡ Ok behind → words ≡ text ∷ behind
 expect_ok text words behind read =
     let a = bind_ok (next_word words) (λ w. cond (bytes_eq w.0 text) (Ok w.1) (Err Word)) behind read in
     let picked = guard_ok (bytes_eq a.0.0 text) a.0.1 behind a.2 in

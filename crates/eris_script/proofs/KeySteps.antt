@@ -1,5 +1,5 @@
 -- Keys, read one by one.
-use Rattle.std.proofs.Common.{◌≡◌, ◌==◌, ℕ, ◌<◌, Bool, true, false, cond, bytes_eq, codes, Result, Ok, Err, List, [], ◌∷◌, ◌++◌, length, refl, sym, ap, ◌∙◌, append-nil, append_assoc, arith}
+use Rattle.std.proofs.Common.{◌≡◌, ◌==◌, ℕ, ◌<◌, Bool, true, false, cond, bytes_eq, codes, Result, Ok, Err, List, [], ◌∷◌, ◌++◌, length, refl, sym, ap, subst, ◌∙◌, append-nil, append_assoc, arith}
 use Rattle.eris_txn.specs.declared.key.Key.{Key}
 use Rattle.eris_script.specs.declared.line_fault.LineFault.{LineFault}
 use Rattle.eris_script.specs.declared.line_fault.LineFault.TheVariants as fault
@@ -68,7 +68,8 @@ pub key_shorter : (version : ℕ) (words after : List (List ℕ)) (k : Key) → 
 unfolding key
 key_shorter version [] after k read = absurd cc
 key_shorter version (word ∷ words) after k read =
+    let one : length words < length (word ∷ words) = omega arith in
     let a = bind_ok (said (read_key version word) reason.Key) (λ x. Ok (x, words)) (k, after) read in
     let same : (a.0, words) ≡ (k, after) = ok_is (a.0, words) (k, after) a.2 in
     let rest : words ≡ after = ap (λ (p : Key × List (List ℕ)). p.1) same in
-    rw (← rest) (omega arith)
+    subst (λ (z : List (List ℕ)). length z < length (word ∷ words)) rest one

@@ -7,6 +7,7 @@ pub mod FormLaws
 pub mod HexLaws
 pub mod HexSteps
 pub mod KeySteps
+pub mod LineLaws
 mod LineLemmas
 pub mod NodeLaws
 pub mod PlanLaws

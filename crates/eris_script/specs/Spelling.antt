@@ -1,6 +1,6 @@
 -- What the words of a line spell. An event has one spelling, but that the clauses of a plan may be mixed: its guards and its settings
 -- keep their order among themselves.
-use Rattle.std.specs.Prelude.{◌≡◌, ◌↔◌, ◌^◌, ◌<◌, ⊥, ℕ, Ok, List, [], ◌∷◌, ◌++◌, map, codes, IsTrue}
+use Rattle.std.specs.Prelude.{◌≡◌, ◌↔◌, ◌^◌, ◌<◌, ℕ, Ok, List, [], ◌∷◌, ◌++◌, map, codes, IsTrue}
 use Rattle.std.specs.List.{flat_map}
 use Rattle.eris_txn.specs.PlanValues.{PlanValue}
 use Rattle.eris_script.specs.declared.clause.Clause.{Clause}
