@@ -12,6 +12,7 @@ mod LineLemmas
 pub mod NodeLaws
 pub mod PlanLaws
 mod ReadLemmas
+pub mod SpellingLaws
 pub mod SplitLaws
 pub mod OpLaws
 pub mod TableLaws

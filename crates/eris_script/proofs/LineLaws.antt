@@ -34,7 +34,7 @@ use Rattle.eris_script.proofs.TableLaws.{is_line_word}
 
 -- EACH KIND OF LINE, BEHIND ITS FIRST WORD
 
-submit_takes : (version : ℕ) (words : List (List ℕ)) (e : Event) → submit_of version words ≡ Ok e → Says version (codes "submit" ∷ words) e
+pub submit_takes : (version : ℕ) (words : List (List ℕ)) (e : Event) → submit_of version words ≡ Ok e → Says version (codes "submit" ∷ words) e
 unfolding submit_of client number
 submit_takes version words e read =
     let a = bind_ok (client.read words) (λ c. ops_of version c.1 >>= λ ops. Ok (event.Submit c.0 ops)) e read in
@@ -47,14 +47,14 @@ submit_takes version words e read =
     } in
     subst (λ (z : Event). Says version (codes "submit" ∷ words) z) (ok_is (event.Submit a.0.0 b.0) e b.2) made
 
-submit_again : (version : ℕ) (c : ClientId) (ops : List Op) → client.fits c ≡ true → are_ops version ops ≡ true →
+pub submit_again : (version : ℕ) (c : ClientId) (ops : List Op) → client.fits c ≡ true → are_ops version ops ≡ true →
     submit_of version (decimal c.0 ∷ ops_words ops) ≡ Ok (event.Submit c ops)
 unfolding submit_of client number
 submit_again version c ops fine all =
     ap (λ r. r >>= λ c. ops_of version c.1 >>= λ ops. Ok (event.Submit c.0 ops)) (is_client.again c (ops_words ops) fine)
     ∙ ap (λ r. r >>= λ ops. Ok (event.Submit c ops)) (ops_again version ops all)
 
-general_takes : (version : ℕ) (words : List (List ℕ)) (e : Event) → general_of version words ≡ Ok e → Says version (codes "general" ∷ words) e
+pub general_takes : (version : ℕ) (words : List (List ℕ)) (e : Event) → general_of version words ≡ Ok e → Says version (codes "general" ∷ words) e
 unfolding general_of client number
 general_takes version words e read =
     let a = bind_ok (client.read words) (λ c. plan_of version c.1 >>= λ plan. Ok (event.General c.0 plan)) e read in
@@ -67,14 +67,14 @@ general_takes version words e read =
     } in
     subst (λ (z : Event). Says version (codes "general" ∷ words) z) (ok_is (event.General a.0.0 b.0) e b.2) made
 
-general_again : (version : ℕ) (c : ClientId) (behind : List (List ℕ)) (plan : PlanValue) → client.fits c ≡ true → SpellsPlan behind plan → is_plan version plan ≡ true →
+pub general_again : (version : ℕ) (c : ClientId) (behind : List (List ℕ)) (plan : PlanValue) → client.fits c ≡ true → SpellsPlan behind plan → is_plan version plan ≡ true →
     general_of version (decimal c.0 ∷ behind) ≡ Ok (event.General c plan)
 unfolding general_of client number
 general_again version c behind plan fine says sound =
     ap (λ r. r >>= λ c. plan_of version c.1 >>= λ plan. Ok (event.General c.0 plan)) (is_client.again c behind fine)
     ∙ ap (λ r. r >>= λ plan. Ok (event.General c plan)) (plan_again version behind plan says sound)
 
-retry_takes : (version : ℕ) (words : List (List ℕ)) (e : Event) → retry_of version words ≡ Ok e → Says version (codes "retry" ∷ words) e
+pub retry_takes : (version : ℕ) (words : List (List ℕ)) (e : Event) → retry_of version words ≡ Ok e → Says version (codes "retry" ∷ words) e
 unfolding retry_of txn two_numbers
 retry_takes version words e read =
     let a = bind_ok (whole (txn version) words) (λ id. Ok (event.Retry id.client id.number)) e read in
@@ -85,11 +85,11 @@ retry_takes version words e read =
     } in
     subst (λ (z : Event). Says version (codes "retry" ∷ words) z) (ok_is (event.Retry a.0.client a.0.number) e a.2) made
 
-retry_again : (version : ℕ) (id : TxnId) → (txn version).fits id ≡ true → retry_of version (pair_words version id.client.0 id.number) ≡ Ok (event.Retry id.client id.number)
+pub retry_again : (version : ℕ) (id : TxnId) → (txn version).fits id ≡ true → retry_of version (pair_words version id.client.0 id.number) ≡ Ok (event.Retry id.client id.number)
 unfolding retry_of txn two_numbers
 retry_again version id fine = ap (λ r. r >>= λ id. Ok (event.Retry id.client id.number)) (whole_again (txn version) (is_txn version) id fine)
 
-abort_takes : (version : ℕ) (words : List (List ℕ)) (e : Event) → abort_of version words ≡ Ok e → Says version (codes "abort" ∷ words) e
+pub abort_takes : (version : ℕ) (words : List (List ℕ)) (e : Event) → abort_of version words ≡ Ok e → Says version (codes "abort" ∷ words) e
 unfolding abort_of txn two_numbers client number
 abort_takes version words e read =
     let a = bind_ok (whole (pair client (txn version)) words) (λ asked. Ok (event.Abort asked.0 asked.1)) e read in
@@ -100,13 +100,13 @@ abort_takes version words e read =
     } in
     subst (λ (z : Event). Says version (codes "abort" ∷ words) z) (ok_is (event.Abort a.0.0 a.0.1) e a.2) made
 
-abort_again : (version : ℕ) (asker : ClientId) (id : TxnId) → (client.fits asker && (txn version).fits id) ≡ true →
+pub abort_again : (version : ℕ) (asker : ClientId) (id : TxnId) → (client.fits asker && (txn version).fits id) ≡ true →
     abort_of version (decimal asker.0 ∷ pair_words version id.client.0 id.number) ≡ Ok (event.Abort asker id)
 unfolding abort_of txn two_numbers client number
 abort_again version asker id fine =
     ap (λ r. r >>= λ asked. Ok (event.Abort asked.0 asked.1)) (whole_again (pair client (txn version)) (is_pair client (txn version) is_client (is_txn version)) (asker, id) fine)
 
-deliver_takes : (version : ℕ) (words : List (List ℕ)) (e : Event) → deliver_of words ≡ Ok e → Says version (codes "deliver" ∷ words) e
+pub deliver_takes : (version : ℕ) (words : List (List ℕ)) (e : Event) → deliver_of words ≡ Ok e → Says version (codes "deliver" ∷ words) e
 unfolding deliver_of count epoch number
 deliver_takes version words e read =
     let a = bind_ok (count.read words) (λ packet. epoch_of packet.1 >>= λ e. Ok (event.Deliver packet.0 e)) e read in
@@ -129,7 +129,7 @@ deliver_takes version words e read =
           fits = both (nat_le packet (2 ^ 32 - 1)) (epoch.fits a.0) fine t.1;
         })
 
-deliver_again : (packet : ℕ) (named : Option Epoch) → count.fits packet ≡ true → (e : (epoch : Epoch) → named ≡ Some epoch → count.fits epoch.0 ≡ true) →
+pub deliver_again : (packet : ℕ) (named : Option Epoch) → count.fits packet ≡ true → (e : (epoch : Epoch) → named ≡ Some epoch → count.fits epoch.0 ≡ true) →
     deliver_of (decimal packet ∷ epoch_words named) ≡ Ok (event.Deliver packet named)
 unfolding deliver_of count epoch number
 deliver_again packet None fine e = ap (λ r. r >>= λ packet. epoch_of packet.1 >>= λ e. Ok (event.Deliver packet.0 e)) (is_count.again packet [] fine)
@@ -138,7 +138,7 @@ deliver_again packet (Some named) fine e =
     ∙ ap (λ r. r >>= (λ e. Ok (Some e)) >>= λ e. Ok (event.Deliver packet e)) (whole_again epoch is_epoch named (e named refl))
 
 -- a line of a replica
-at_takes : (version : ℕ) (made : ShardId → ReplicaId → Event) (words : List (List ℕ)) (e : Event) (Goal : Event → Type 0) →
+pub at_takes : (version : ℕ) (made : ShardId → ReplicaId → Event) (words : List (List ℕ)) (e : Event) (Goal : Event → Type 0) →
     ((s : ShardId) (r : ReplicaId) → words ≡ pair_words version s.0 r.0 → (replica version).fits (s, r) ≡ true → Goal (made s r)) →
     at_replica made version words ≡ Ok e → Goal e
 unfolding replica two_numbers
@@ -147,12 +147,12 @@ at_takes version made words e Goal goes read =
     let t = whole_takes (replica version) (is_replica version) words a.0 a.1 in
     subst Goal (ok_is (made a.0.0 a.0.1) e a.2) (goes a.0.0 a.0.1 t.0 t.1)
 
-at_again : (version : ℕ) (made : ShardId → ReplicaId → Event) (s : ShardId) (r : ReplicaId) → (replica version).fits (s, r) ≡ true →
+pub at_again : (version : ℕ) (made : ShardId → ReplicaId → Event) (s : ShardId) (r : ReplicaId) → (replica version).fits (s, r) ≡ true →
     at_replica made version (pair_words version s.0 r.0) ≡ Ok (made s r)
 unfolding replica two_numbers
 at_again version made s r fine = ap (λ read. read >>= λ r. Ok (made r.0 r.1)) (whole_again (replica version) (is_replica version) (s, r) fine)
 
-noise_takes : (version : ℕ) (words : List (List ℕ)) (e : Event) → noise_of version words ≡ Ok e → Says version (codes "noise" ∷ words) e
+pub noise_takes : (version : ℕ) (words : List (List ℕ)) (e : Event) → noise_of version words ≡ Ok e → Says version (codes "noise" ∷ words) e
 unfolding noise_of node_form hex
 noise_takes version words e read =
     let a = bind_ok (whole (pair (node_form version) hex) words) (λ noise. Ok (event.Noise noise.0 noise.1)) e read in
@@ -163,20 +163,20 @@ noise_takes version words e read =
     } in
     subst (λ (z : Event). Says version (codes "noise" ∷ words) z) (ok_is (event.Noise a.0.0 a.0.1) e a.2) made
 
-noise_again : (version : ℕ) (to : Node) (bytes : List ℕ) → (fits_node version to && hex.fits bytes) ≡ true →
+pub noise_again : (version : ℕ) (to : Node) (bytes : List ℕ) → (fits_node version to && hex.fits bytes) ≡ true →
     noise_of version (node_words version to ++ hex_word bytes ∷ []) ≡ Ok (event.Noise to bytes)
 unfolding noise_of node_form hex
 noise_again version to bytes fine =
     ap (λ r. r >>= λ noise. Ok (event.Noise noise.0 noise.1)) (whole_again (pair (node_form version) hex) (is_pair (node_form version) hex (is_node version) is_hex) (to, bytes) fine)
 
 -- a line with a count
-times_take : (words : List (List ℕ)) (text : List ℕ) (n : ℕ) → whole count words ≡ Ok n → SaysTimes (text ∷ words) text n
+pub times_take : (words : List (List ℕ)) (text : List ℕ) (n : ℕ) → whole count words ≡ Ok n → SaysTimes (text ∷ words) text n
 unfolding count number
 times_take words text n read =
     let t = whole_takes count is_count words n read in
     let few = true_le n (2 ^ 32 - 1) t.1 in
     record { spelled = ap (λ (z : List (List ℕ)). text ∷ z) t.0; fits = omega arith }
 
-times_again : (n : ℕ) → n < 2 ^ 32 → whole count (decimal n ∷ []) ≡ Ok n
+pub times_again : (n : ℕ) → n < 2 ^ 32 → whole count (decimal n ∷ []) ≡ Ok n
 unfolding count number
 times_again n few = whole_again count is_count n (le_true n (2 ^ 32 - 1) (omega arith))
