@@ -4,6 +4,7 @@ pub mod ClauseSteps
 mod DigitLemmas
 pub mod FieldLaws
 pub mod FormLaws
+pub mod HeaderLaws
 pub mod HexLaws
 pub mod HexSteps
 pub mod KeySteps

@@ -1,6 +1,7 @@
 -- What a line says is what it spells, and an event that is printed is read back.
-use Rattle.std.proofs.Common.{◌≡◌, ◌↔◌, ℕ, ◌^◌, ◌<◌, Bool, true, false, cond, ◌&&◌, codes, IsTrue, Option, Some, None, Result, Ok, Err, List, [], ◌∷◌, ◌++◌, refl, sym, ap, subst, ◌∙◌}
+use Rattle.std.proofs.Common.{◌≡◌, ◌↔◌, ℕ, ◌^◌, ◌<◌, Bool, true, false, cond, ◌&&◌, codes, IsTrue, Option, Some, None, Result, Ok, Err, List, [], ◌∷◌, ◌++◌, refl, sym, ap, subst, ◌∙◌, lit<}
 use Rattle.std.specs.List.{join_with_byte}
+use Rattle.std.proofs.lemmas.Fmt.{decimal_digit}
 use Rattle.eris_base.specs.declared.ids.Epoch.{Epoch}
 use Rattle.eris_base.specs.declared.ids.ReplicaId.{ReplicaId}
 use Rattle.eris_base.specs.declared.ids.ShardId.{ShardId}
@@ -210,3 +211,84 @@ read_as_spelled version text = record {
   flows = λ n. (λ read. asked version text (line.Flow n) read (λ same. cc), flow_read version text n);
   loses = λ n. (λ read. asked version text (line.Lose n) read (λ same. cc), lose_read version text n);
 }
+
+-- WHAT IS PRINTED IS READ BACK
+
+deliver_plain : (packet : ℕ) (named : Option Epoch) → count.fits packet ≡ true → ((e : Epoch) → named ≡ Some e → count.fits e.0 ≡ true) →
+    are_plain (decimal packet ∷ epoch_words named) ≡ true
+unfolding count number
+deliver_plain packet None fine e = is_count.plain packet fine
+deliver_plain packet (Some named) fine e =
+    plain-append (decimal packet ∷ []) (decimal named.0 ∷ []) (is_count.plain packet fine) (is_count.plain named.0 (e named refl))
+
+event_plain : (version : ℕ) (e : Event) → fits_event version e ≡ true → are_plain (event_words version e) ≡ true
+unfolding client number txn replica two_numbers node_form hex
+event_plain version (event.Submit c ops) fine =
+    plain-append (decimal c.0 ∷ []) (ops_words ops) (is_client.plain c (left_of (client.fits c) (are_ops version ops) fine)) (ops_plain version ops (right_of (client.fits c) (are_ops version ops) fine))
+event_plain version (event.General c plan) fine =
+    plain-append (decimal c.0 ∷ []) (plan_words plan) (is_client.plain c (left_of (client.fits c) (is_plan version plan) fine))
+    (plan_plain version (plan_words plan) plan (plan_printed plan) (right_of (client.fits c) (is_plan version plan) fine))
+event_plain version (event.Retry c n) fine = (is_txn version).plain (record { client = c; number = n }) fine
+event_plain version (event.Abort asker id) fine =
+    plain-append (decimal asker.0 ∷ []) (pair_words version id.client.0 id.number) (is_client.plain asker (left_of (client.fits asker) ((txn version).fits id) fine))
+    ((is_txn version).plain id (right_of (client.fits asker) ((txn version).fits id) fine))
+event_plain version (event.Deliver packet named) fine = let parts = epoch_fits packet named version fine in deliver_plain packet named parts.0 parts.1
+event_plain version event.Flow fine = refl
+event_plain version event.Lose fine = refl
+event_plain version (event.Probe s r) fine = (is_replica version).plain (s, r) fine
+event_plain version (event.Suspect s r) fine = (is_replica version).plain (s, r) fine
+event_plain version (event.Sync s r) fine = (is_replica version).plain (s, r) fine
+event_plain version (event.Crash s r) fine = (is_replica version).plain (s, r) fine
+event_plain version event.Nudge fine = refl
+event_plain version event.Replace fine = refl
+event_plain version (event.Noise to bytes) fine =
+    plain-append (node_words version to) (hex_word bytes ∷ []) ((is_node version).plain to (left_of (fits_node version to) (hex.fits bytes) fine))
+    (is_hex.plain bytes (right_of (fits_node version to) (hex.fits bytes) fine))
+
+once : codes "flow" ∷ codes "1" ∷ [] ≡ codes "flow" ∷ decimal 1 ∷ []
+once = ap (λ (digit : List ℕ). codes "flow" ∷ digit ∷ []) (sym (decimal_digit 1 (lit< tt)))
+
+lost_once : codes "lose" ∷ codes "1" ∷ [] ≡ codes "lose" ∷ decimal 1 ∷ []
+lost_once = ap (λ (digit : List ℕ). codes "lose" ∷ digit ∷ []) (sym (decimal_digit 1 (lit< tt)))
+
+pub event_back : (version : ℕ) (e : Event) → IsTrue (fits_event version e) → line_of version (event_text version e) ≡ Ok (line_saying e)
+event_back version (event.Submit c ops) fine =
+    event_read version _ (event.Submit c ops) (record { spelled = words_joined (codes "submit") (decimal c.0 ∷ ops_words ops) (event_plain version (event.Submit c ops) fine); fits = fine })
+event_back version (event.General c plan) fine =
+    event_read version _ (event.General c plan) (record {
+      spelled = record {
+        behind = plan_words plan;
+        spelled = words_joined (codes "general") (decimal c.0 ∷ plan_words plan) (event_plain version (event.General c plan) fine);
+        planned = plan_printed plan;
+      };
+      fits = fine;
+    })
+event_back version (event.Retry c n) fine =
+    event_read version _ (event.Retry c n) (record { spelled = words_joined (codes "retry") (pair_words version c.0 n) (event_plain version (event.Retry c n) fine); fits = fine })
+event_back version (event.Abort asker id) fine =
+    event_read version _ (event.Abort asker id) (record {
+      spelled = words_joined (codes "abort") (decimal asker.0 ∷ pair_words version id.client.0 id.number) (event_plain version (event.Abort asker id) fine);
+      fits = fine;
+    })
+event_back version (event.Deliver packet named) fine =
+    event_read version _ (event.Deliver packet named) (record {
+      spelled = words_joined (codes "deliver") (decimal packet ∷ epoch_words named) (event_plain version (event.Deliver packet named) fine);
+      fits = fine;
+    })
+event_back version event.Flow fine = flow_read version _ 1 (record { spelled = words_joined (codes "flow") (codes "1" ∷ []) refl ∙ once; fits = lit< tt })
+event_back version event.Lose fine = lose_read version _ 1 (record { spelled = words_joined (codes "lose") (codes "1" ∷ []) refl ∙ lost_once; fits = lit< tt })
+event_back version (event.Probe s r) fine =
+    event_read version _ (event.Probe s r) (record { spelled = words_joined (codes "probe") (pair_words version s.0 r.0) (event_plain version (event.Probe s r) fine); fits = fine })
+event_back version (event.Suspect s r) fine =
+    event_read version _ (event.Suspect s r) (record { spelled = words_joined (codes "suspect") (pair_words version s.0 r.0) (event_plain version (event.Suspect s r) fine); fits = fine })
+event_back version (event.Sync s r) fine =
+    event_read version _ (event.Sync s r) (record { spelled = words_joined (codes "sync") (pair_words version s.0 r.0) (event_plain version (event.Sync s r) fine); fits = fine })
+event_back version (event.Crash s r) fine =
+    event_read version _ (event.Crash s r) (record { spelled = words_joined (codes "crash") (pair_words version s.0 r.0) (event_plain version (event.Crash s r) fine); fits = fine })
+event_back version event.Nudge fine = event_read version _ event.Nudge (record { spelled = words_joined (codes "nudge") [] refl; fits = fine })
+event_back version event.Replace fine = event_read version _ event.Replace (record { spelled = words_joined (codes "replace") [] refl; fits = fine })
+event_back version (event.Noise to bytes) fine =
+    event_read version _ (event.Noise to bytes) (record {
+      spelled = words_joined (codes "noise") (node_words version to ++ hex_word bytes ∷ []) (event_plain version (event.Noise to bytes) fine);
+      fits = fine;
+    })

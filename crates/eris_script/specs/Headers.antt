@@ -1,6 +1,5 @@
 -- The first line of a script: `eris V S F C`, its version and the sizes of the system.
-use Rattle.std.specs.Prelude.{ℕ, ◌==◌, ◌&&◌, nat_le, Bool, Option, Some, None, Result, List, [], ◌∷◌, bytes_eq, codes, if◌then◌else◌}
-use Rattle.std.specs.List.{join_with_byte}
+use Rattle.std.specs.Prelude.{◌≡◌, ◌⊎◌, ℕ, ◌==◌, ◌&&◌, nat_le, Bool, Option, Some, None, Result, List, [], ◌∷◌, bytes_eq, codes, IsTrue, if◌then◌else◌}
 use Rattle.eris_base.specs.ConfigLimits.{ConfigValue}
 use Rattle.eris_script.specs.declared.header.Header.{Header}
 use Rattle.eris_script.specs.declared.reason.Reason.{Reason}
@@ -61,5 +60,8 @@ abbrev pub header_words : Header → List (List ℕ)
 header_words header =
     codes "eris" ∷ decimal header.version ∷ decimal header.config.shards ∷ decimal header.config.f ∷ decimal header.config.clients ∷ []
 
-unfoldable pub header_text : Header → List ℕ
-header_text header = join_with_byte 32 (header_words header)
+-- words that are a header, its version and its sizes in their limits
+pub record SpellsHeader (words : List (List ℕ)) (header : Header) : Type 0 where
+  pub spelled : words ≡ header_words header
+  pub known : (header.version ≡ 1) ⊎ (header.version ≡ 2)
+  pub fits : IsTrue (in_limits header.version header.config)

@@ -1,7 +1,8 @@
-ghost use Rattle.std.specs.Prelude.{◌≡◌, ◌⊎◌, ◌<◌, ◌∷◌, ◌++◌, IfOk, OnOk};
+ghost use Rattle.std.specs.Prelude.{◌≡◌, ◌⊎◌, ◌<◌, ◌∷◌, ◌++◌, Ok, IfOk, IsTrue, OnOk};
 ghost use Rattle.std.specs.List.{flat_map, join_with_byte};
 ghost use Rattle.eris_script.specs.EventText.{epoch_words, event_text, event_words, node_words};
 ghost use Rattle.eris_script.specs.Fields.{hex_digit, hex_pair, hex_word, pair_words};
+ghost use Rattle.eris_script.specs.LineForms.{fits_event, line_of, line_saying};
 ghost use Rattle.eris_script.specs.Words.{spaced};
 
 use crate::event::Event;
@@ -154,10 +155,14 @@ fn put_event(out: &mut Row<u8>, version: u8, event: &Event) -> Result<(), NoMemo
 }
 
 /// The line of an event in a script of version 1 or 2, its words separated by single spaces, without the
-/// LF that ends it. A plan's guards stand before its settings.
+/// LF that ends it. A plan's guards stand before its settings. An event whose fields are in the ranges of
+/// the version is what the line says when it is read.
+#[tactic(auto, using(crate::proofs::SpellingLaws::event_back))]
 pub fn print_event(alloc: Global, version: u8, event: &Event) -> Result<Row<u8>, NoMemory>
     requires { (version ≡ 1) ⊎ (version ≡ 2) }
-    ensures { IfOk result (λ text. text ≡ event_text version event.now) }
+    ensures exact { IfOk result (λ text. text ≡ event_text version event.now) }
+    ensures read_back { IfOk result (λ text. IsTrue (fits_event version event.now)
+        → line_of version text ≡ Ok (line_saying event.now)) }
 {
     let mut text = Row::new(alloc);
     put_event(&mut text, version, event)?;

@@ -9,6 +9,7 @@ mod event_line;
 mod event_text;
 mod fields;
 mod fixed_words;
+mod grammar;
 mod header;
 mod header_line;
 mod hex;
@@ -31,6 +32,7 @@ mod words;
 
 pub use event::Event;
 pub use event_text::print_event;
+pub use grammar::every_line_is_read_as_spelled;
 pub use header::Header;
 pub use header_line::parse_header;
 pub use line::Line;
