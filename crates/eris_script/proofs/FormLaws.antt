@@ -253,9 +253,9 @@ module _ {X : Type 0} (item : Form X) (h : IsForm item) where
       (λ x. more_items item n x.1 >>= λ xs. Ok (x.0 ∷ xs))
       (λ x. more_items item m x.1 >>= λ xs. Ok (x.0 ∷ xs))
       (λ x read.
-          let t = next_takes (word ∷ words) x.0 x.1 read in
-          let fewer = t.fewer in
-          ap (λ r. r >>= λ xs. Ok (x.0 ∷ xs)) (enough n m x.1 (omega arith) (omega arith)))
+      let t = next_takes (word ∷ words) x.0 x.1 read in
+      let fewer = t.fewer in
+      ap (λ r. r >>= λ xs. Ok (x.0 ∷ xs)) (enough n m x.1 (omega arith) (omega arith)))
 
   pub one_more : (words after : List (List ℕ)) (x : X) → next_item item words ≡ Ok (x, after) → more item words ≡ (more item after >>= λ xs. Ok (x ∷ xs))
   one_more [] after x read = absurd cc

@@ -256,9 +256,9 @@ unfolding all_keys key
 all_keys_again version first ks rest fine stopped =
     let behind : List (List ℕ) = map key_word ks ++ rest in
     ap (λ r. ◌>>=◌ {B = List Key × List (List ℕ)} r (λ k. keys_of version k.1 >>= λ others. Ok (k.0 ∷ others.0, others.1)))
-        ((is_key version).again first behind (left_of ((key version).fits first) (list_all (key version).fits ks) fine))
+    ((is_key version).again first behind (left_of ((key version).fits first) (list_all (key version).fits ks) fine))
     ∙ ap (λ r. ◌>>=◌ {B = List Key × List (List ℕ)} r (λ others. Ok (first ∷ others.0, others.1)))
-        (keys_again version ks rest (right_of ((key version).fits first) (list_all (key version).fits ks) fine) stopped)
+    (keys_again version ks rest (right_of ((key version).fits first) (list_all (key version).fits ks) fine) stopped)
 
 pub record PlanTaken (version : ℕ) (words : List (List ℕ)) (plan : PlanValue) : Type 0 where
   pub spelled : SpellsPlan words plan
@@ -271,7 +271,7 @@ pub plan_take : (version : ℕ) (words : List (List ℕ)) (plan : PlanValue) →
 unfolding plan_of all_clauses clause_form
 plan_take version words plan read =
     let w = bind_ok (expect (codes "lock") words)
-        (λ behind. all_keys version behind >>= λ keys. all_clauses version keys.1 >>= λ rows. planned version keys.0 rows.0 rows.1) plan read in
+    (λ behind. all_keys version behind >>= λ keys. all_clauses version keys.1 >>= λ rows. planned version keys.0 rows.0 rows.1) plan read in
     let a = bind_ok (all_keys version w.0) (λ keys. all_clauses version keys.1 >>= λ rows. planned version keys.0 rows.0 rows.1) plan w.2 in
     let b = bind_ok (all_clauses version a.0.1) (λ rows. planned version a.0.0 rows.0 rows.1) plan a.2 in
     let c = bind_ok (more (clause_form version) a.0.1) (λ clauses. Ok (guards_in clauses, settings_in clauses)) b.0 b.1 in
@@ -279,7 +279,7 @@ plan_take version words plan read =
     let u = more_takes (clause_form version) (is_clause version) (length a.0.1) a.0.1 c.0 c.1 in
     let rows = ok_is (guards_in c.0, settings_in c.0) b.0 c.2 in
     let m = planned_is version a.0.0 (guards_in c.0) (settings_in c.0) plan
-        (ap (λ (z : List Guard × List Setting). planned version a.0.0 z.0 z.1) rows ∙ b.2) in
+    (ap (λ (z : List Guard × List Setting). planned version a.0.0 z.0 z.1) rows ∙ b.2) in
     let made : PlanTaken version words (record { keys = a.0.0; guards = guards_in c.0; settings = settings_in c.0 }) = record {
       spelled = record {
         clauses = c.0;
@@ -338,7 +338,7 @@ lists_again version [] guards settings clauses same_guards same_settings fine = 
 lists_again version (first ∷ ks) guards settings clauses same_guards same_settings fine =
     let fit = clauses_fit version clauses (ap (list_all (fits_guard version)) same_guards ∙ fine.fit_guards) (ap (list_all (fits_setting version)) same_settings ∙ fine.fit_settings) in
     ap (λ r. r >>= λ keys. all_clauses version keys.1 >>= λ rows. planned version keys.0 rows.0 rows.1)
-        (all_keys_again version first ks (spelled_clauses clauses) fine.fit_keys (clauses_stop clauses))
+    (all_keys_again version first ks (spelled_clauses clauses) fine.fit_keys (clauses_stop clauses))
     ∙ ap (λ r. r >>= λ rows. planned version (first ∷ ks) rows.0 rows.1) (clauses_again version clauses fit)
     ∙ ap (λ (z : List Guard). planned version (first ∷ ks) z (settings_in clauses)) same_guards
     ∙ ap (λ (z : List Setting). planned version (first ∷ ks) guards z) same_settings

@@ -15,5 +15,6 @@ pub mod PlanText
 pub mod Reasons
 pub mod ReplicaText
 pub mod ReportText
+pub mod Scripts
 pub mod Spelling
 pub mod Words

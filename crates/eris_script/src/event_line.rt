@@ -175,11 +175,7 @@ fn line_behind(
 
 // What a line says that isn't skipped.
 #[tactic(auto, unfolding(crate::specs::LineForms::said_by))]
-pub(crate) fn said_by(
-    alloc: Global,
-    version: u8,
-    words: &mut LineWords,
-) -> Result<Line, LineFault>
+pub(crate) fn said_by(alloc: Global, version: u8, words: &mut LineWords) -> Result<Line, LineFault>
     ensures { Gives (λ line. line) result (form.said_by version words.old) }
 {
     let word = line_word_of(words)?;

@@ -14,15 +14,22 @@ use eris_txn::{Key, Name};
 // The highest number of a client, of a shard and of a replica that a line can name.
 const LAST_NODE: u64 = 255;
 
+fn number_in(word: &[u8], limit: u64) -> Option<u64>
+    ensures exact { result ≡ read_decimal limit word.now }
+    ensures fits { IfSome result (λ n. n ≤ limit) }
+{
+    read_number(word, limit)
+}
+
 #[tactic(auto, unfolding(crate::specs::Fields::number))]
 fn number_of(words: &mut LineWords, limit: u64) -> Result<u64, LineFault>
     ensures gives { Gives (λ n. (n, words.new)) result ((field.number limit).read words.old) }
     ensures fits { IfOk result (λ n. n ≤ limit) }
 {
-    match read_number(words.next()?, limit) {
-        Some(number) => Ok(number),
-        None => Err(LineFault::Bad(Reason::Number)),
-    }
+    let Some(number) = number_in(words.next()?, limit) else {
+        return Err(LineFault::Bad(Reason::Number));
+    };
+    Ok(number)
 }
 
 #[tactic(auto, unfolding(crate::specs::Fields::count))]
@@ -44,13 +51,6 @@ pub(crate) fn client_of(words: &mut LineWords) -> Result<ClientId, LineFault>
     ensures { Gives (λ c. (c, words.new)) result (field.client.read words.old) }
 {
     Ok(ClientId(number_of(words, LAST_NODE)? as u8))
-}
-
-fn number_in(word: &[u8], limit: u64) -> Option<u64>
-    ensures exact { result ≡ read_decimal limit word.now }
-    ensures fits { IfSome result (λ n. n ≤ limit) }
-{
-    read_number(word, limit)
 }
 
 fn read_dotted(word: &[u8], first: u64, second: u64) -> Option<(u64, u64)>

@@ -14,20 +14,25 @@ use eris_txn::{Guard, How, Key, Plan, PlanFault, Setting};
 use std::alloc::Global;
 
 #[tactic(auto, unfolding(crate::specs::PlanForms::clause_behind))]
-fn clause_behind(
-    version: u8,
-    word: ClauseWord,
-    words: &mut LineWords,
-) -> Result<Clause, LineFault>
+fn clause_behind(version: u8, word: ClauseWord, words: &mut LineWords) -> Result<Clause, LineFault>
     ensures { Gives (λ clause. (clause, words.new)) result (form.clause_behind version word words.old) }
 {
     let key = key_of(version, words)?;
     let number = value_of(words)?;
     Ok(match word {
         ClauseWord::Guard => Clause::Guard(Guard { key, least: number }),
-        ClauseWord::Set => Clause::Setting(Setting { key, how: How::Put(number) }),
-        ClauseWord::Plus => Clause::Setting(Setting { key, how: How::Plus(number) }),
-        ClauseWord::Minus => Clause::Setting(Setting { key, how: How::Minus(number) }),
+        ClauseWord::Set => Clause::Setting(Setting {
+            key,
+            how: How::Put(number),
+        }),
+        ClauseWord::Plus => Clause::Setting(Setting {
+            key,
+            how: How::Plus(number),
+        }),
+        ClauseWord::Minus => Clause::Setting(Setting {
+            key,
+            how: How::Minus(number),
+        }),
     })
 }
 
@@ -123,11 +128,7 @@ fn planned(
 
 /// A plan, to the end of the line.
 #[tactic(auto, unfolding(crate::specs::PlanForms::plan_of))]
-pub(crate) fn plan_of(
-    alloc: Global,
-    version: u8,
-    words: &mut LineWords,
-) -> Result<Plan, LineFault>
+pub(crate) fn plan_of(alloc: Global, version: u8, words: &mut LineWords) -> Result<Plan, LineFault>
     ensures { Gives (λ plan. plan) result (form.plan_of version words.old) }
 {
     words.expect(b"lock")?;
