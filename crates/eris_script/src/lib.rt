@@ -44,4 +44,6 @@ pub use report::{ReplicaLine, ReplicaState, Report};
 pub use report_text::print_report;
 
 #[cfg(test)]
+mod grammar_tests;
+#[cfg(test)]
 mod tests;
