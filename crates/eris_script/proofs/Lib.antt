@@ -9,6 +9,7 @@ pub mod HexLaws
 pub mod HexSteps
 pub mod KeySteps
 pub mod LineLaws
+pub mod LineCuts
 mod LineLemmas
 pub mod NodeLaws
 pub mod PlanLaws

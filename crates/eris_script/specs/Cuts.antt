@@ -1,6 +1,6 @@
 -- How a script's bytes are cut into lines, and a line into words.
 use Rattle.std.specs.Prelude.{ℕ, Bool, true, List, [], ◌∷◌, map, ◌==◌, if◌then◌else◌}
-use Rattle.std.specs.List.{onto_first, slice_split}
+use Rattle.std.specs.List.{before_first, onto_first, slice_split}
 use Rattle.std.specs.Str.Lines.{strip_carriage_return}
 
 -- a byte before lines: LF ends a line of its own, any other byte begins the first line
@@ -27,3 +27,6 @@ is_space byte = byte == 32
 -- a line is cut at each space; two spaces in a row have an empty word between them
 unfoldable pub words : List ℕ → List (List ℕ)
 words line = slice_split is_space line
+
+abbrev pub first_word : List ℕ → List ℕ
+first_word line = before_first is_space line

@@ -30,6 +30,7 @@ mod report;
 mod report_text;
 mod words;
 
+pub use cut::{first_line, first_word};
 pub use event::Event;
 pub use event_text::print_event;
 pub use grammar::every_line_is_read_as_spelled;

@@ -1,7 +1,7 @@
 use Rattle.std.proofs.Common.{◌≡◌, ◌==◌, ℕ, ◌<◌, ◌+◌, Bool, true, false, not, cond, List, [], ◌∷◌, length, take, drop, map, ap, sym, ◌∙◌, arith, refl, one-add, add-one}
 use Rattle.std.specs.List.{before_first, after_first, onto_first, position_or_len}
 use Rattle.std.specs.Str.Lines.{strip_carriage_return}
-use Rattle.eris_cmd.specs.ThinScript.{cut_lines, lines}
+use Rattle.eris_script.specs.Cuts.{cut_lines, lines}
 
 abbrev is_lf : ℕ → Bool
 is_lf byte = byte == 10
