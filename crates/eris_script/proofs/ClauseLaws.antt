@@ -1,10 +1,8 @@
 -- A clause of a plan is read as just what it spells.
-use Rattle.std.proofs.Common.{◌≡◌, ℕ, true, List, [], ◌∷◌, ◌++◌, codes, Ok, refl}
-use Rattle.eris_txn.specs.declared.plan.Guard.{Guard}
+use Rattle.std.proofs.Common.{◌≡◌, ℕ, true, List, [], ◌∷◌, codes, Ok, refl}
 use Rattle.eris_txn.specs.declared.key.Key.{Key}
 use Rattle.eris_txn.specs.declared.plan.How.{How}
 use Rattle.eris_txn.specs.declared.plan.How.TheVariants.{Put, Plus, Minus}
-use Rattle.eris_txn.specs.declared.plan.Setting.{Setting}
 use Rattle.eris_script.specs.declared.clause.Clause.{Clause}
 use Rattle.eris_script.specs.declared.clause.Clause.TheVariants as clause
 use Rattle.eris_script.specs.declared.fixed_words.ClauseWord.{ClauseWord}

@@ -1,5 +1,5 @@
 -- Clauses, read one by one.
-use Rattle.std.proofs.Common.{◌≡◌, ◌==◌, ℕ, ◌<◌, Bool, false, Result, Ok, Err, List, [], ◌∷◌, ◌++◌, length, refl, sym, ap, ◌∙◌, append-nil, append_assoc, arith}
+use Rattle.std.proofs.Common.{◌≡◌, ◌==◌, ℕ, ◌<◌, false, Result, Ok, Err, List, [], ◌∷◌, ◌++◌, length, refl, sym, ap, ◌∙◌, append-nil, append_assoc, arith}
 use Rattle.eris_txn.specs.declared.plan.Guard.{Guard}
 use Rattle.eris_txn.specs.declared.plan.Setting.{Setting}
 use Rattle.eris_script.specs.declared.clause.Clause.{Clause}

@@ -1,5 +1,5 @@
 -- Numbers, names of nodes and transactions, and keys are read as just what they spell.
-use Rattle.std.proofs.Common.{◌≡◌, ℕ, suc, ◌+◌, ◌-◌, ◌^◌, ◌<◌, ◌≤◌, ◌≢◌, Bool, true, false, not, cond, ◌==◌, ◌&&◌, nat_le, codes, Option, Some, None, List, [], ◌∷◌, ◌++◌, length, take, drop, refl, sym, ap, subst, ◌∙◌, append_assoc, arith, lit<, one-add, inl, inr}
+use Rattle.std.proofs.Common.{◌≡◌, ℕ, suc, ◌+◌, ◌-◌, ◌^◌, ◌<◌, ◌≤◌, ◌≢◌, Bool, true, false, not, cond, ◌==◌, ◌&&◌, nat_le, Option, Some, None, List, [], ◌∷◌, ◌++◌, length, take, drop, refl, sym, ap, ◌∙◌, append_assoc, arith, lit<, one-add, inl, inr}
 use Rattle.std.specs.Char.{is_digit}
 use Rattle.std.specs.List.{before_first, after_first, position_or_len, list_all}
 use Rattle.std.proofs.Math.ListN.{drop_of_length-le}
@@ -7,20 +7,16 @@ use Rattle.std.proofs.Math.Seq.{take-append_seam, drop-append-add}
 use Rattle.std.proofs.lemmas.Bool.{cases_lt, eqb-true}
 use Rattle.std.proofs.lemmas.Bool.Decides.{nat_tests}
 use Rattle.std.proofs.lemmas.List.Sums.{split_at_first, passes_at_first}
-use Rattle.eris_base.specs.declared.ids.ClientId.{ClientId}
-use Rattle.eris_base.specs.declared.ids.ReplicaId.{ReplicaId}
-use Rattle.eris_base.specs.declared.ids.ShardId.{ShardId}
-use Rattle.eris_base.specs.declared.ids.TxnId.{TxnId}
 use Rattle.eris_txn.specs.declared.key.Key.{Key}
 use Rattle.eris_txn.specs.Names.{is_name, is_name_byte}
 use Rattle.eris_script.specs.declared.reason.Reason.TheVariants as reason
 use Rattle.eris_script.specs.Cuts.{is_space}
-use Rattle.eris_script.specs.Decimal.{decimal, are_digits, read_decimal}
-use Rattle.eris_script.specs.Fields.{number, count, value, client, is_dot, dotted_word, both_of, read_dotted, two_words, dotted, pair_words, two_numbers, txn, replica, last_shard, is_slash, key_in, read_key, key}
-use Rattle.eris_script.specs.Forms.{Form, one_word, pair, named}
+use Rattle.eris_script.specs.Decimal.{decimal, read_decimal}
+use Rattle.eris_script.specs.Fields.{number, count, value, client, is_dot, dotted_word, both_of, read_dotted, two_words, dotted, two_numbers, txn, replica, last_shard, is_slash, key_in, read_key, key}
+use Rattle.eris_script.specs.Forms.{Form, named}
 use Rattle.eris_script.specs.Words.{key_word}
 use Rattle.eris_script.proofs.DecimalLaws.{digits_of_decimal, read_decimal-decimal, read_decimal_only}
-use Rattle.eris_script.proofs.FormLaws.{is_plain, are_plain, both, left_of, right_of, IsForm, IsWord, Takes, is_one_word, is_pair, is_named}
+use Rattle.eris_script.proofs.FormLaws.{is_plain, both, left_of, right_of, IsForm, IsWord, is_one_word, is_pair, is_named}
 
 -- BYTES THAT A WORD LACKS
 

@@ -1,18 +1,16 @@
 -- A header is read as just what it spells.
-use Rattle.std.proofs.Common.{◌≡◌, ◌⊎◌, ℕ, ◌^◌, ◌<◌, ◌≤◌, Bool, true, false, cond, ◌==◌, ◌&&◌, nat_le, bytes_eq, codes, IsTrue, Option, Some, None, Result, Ok, Err, List, [], ◌∷◌, refl, sym, ap, subst, ◌∙◌, inl, inr, arith, lit<}
+use Rattle.std.proofs.Common.{◌≡◌, ◌⊎◌, ℕ, ◌≤◌, Bool, true, false, cond, ◌==◌, ◌&&◌, nat_le, bytes_eq, codes, IsTrue, Option, Some, None, Ok, List, [], ◌∷◌, refl, sym, ap, subst, ◌∙◌, inl, inr, arith, lit<}
 use Rattle.std.proofs.lemmas.Bool.Decides.{nat_tests}
 use Rattle.std.proofs.lemmas.Fmt.{decimal_digit}
 use Rattle.std.proofs.lemmas.Slice.Eq.{bytes_eq-Decides}
 use Rattle.eris_base.specs.ConfigLimits.{ConfigValue}
 use Rattle.eris_script.specs.declared.header.Header.{Header}
-use Rattle.eris_script.specs.declared.reason.Reason.{Reason}
 use Rattle.eris_script.specs.declared.reason.Reason.TheVariants as reason
 use Rattle.eris_script.specs.Cuts.{words}
 use Rattle.eris_script.specs.Decimal.{decimal, read_decimal}
 use Rattle.eris_script.specs.Forms.{said}
-use Rattle.eris_script.specs.Headers.{SpellsHeader, config_of, header_of, header_words, headed, in_limits, most_clients, most_shards, sized, sizes_in, version_of, versioned}
+use Rattle.eris_script.specs.Headers.{SpellsHeader, config_of, header_of, header_words, headed, in_limits, sized, sizes_in, version_of, versioned}
 use Rattle.eris_script.proofs.DecimalLaws.{read_decimal-decimal, read_decimal_only}
-use Rattle.eris_script.proofs.FormLaws.{left_of, right_of}
 
 some_config : (a b : ConfigValue) → Some a ≡ Some b → a ≡ b
 some_config a b same = cc

@@ -1,5 +1,5 @@
 -- Keys, read one by one.
-use Rattle.std.proofs.Common.{◌≡◌, ◌==◌, ℕ, ◌<◌, Bool, true, false, cond, bytes_eq, codes, Result, Ok, Err, List, [], ◌∷◌, ◌++◌, length, refl, sym, ap, subst, ◌∙◌, append-nil, append_assoc, arith}
+use Rattle.std.proofs.Common.{◌≡◌, ◌==◌, ℕ, ◌<◌, true, false, cond, bytes_eq, codes, Result, Ok, Err, List, [], ◌∷◌, ◌++◌, length, refl, sym, ap, subst, ◌∙◌, append-nil, append_assoc, arith}
 use Rattle.eris_txn.specs.declared.key.Key.{Key}
 use Rattle.eris_script.specs.declared.line_fault.LineFault.{LineFault}
 use Rattle.eris_script.specs.declared.line_fault.LineFault.TheVariants as fault

@@ -7,6 +7,7 @@ pub mod FormLaws
 pub mod HeaderLaws
 pub mod HexLaws
 pub mod HexSteps
+pub mod KeyListLaws
 pub mod KeySteps
 pub mod LineLaws
 pub mod LineCuts
@@ -14,8 +15,10 @@ mod LineLemmas
 pub mod NodeLaws
 pub mod PlanLaws
 mod ReadLemmas
+mod ScriptExamples
 pub mod SpellingLaws
 pub mod SplitLaws
 pub mod OpLaws
+pub mod OpListLaws
 pub mod TableLaws
 pub mod WordCuts

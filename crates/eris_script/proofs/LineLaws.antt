@@ -1,5 +1,5 @@
 -- A line is read as just what it spells.
-use Rattle.std.proofs.Common.{◌≡◌, ℕ, suc, ◌+◌, ◌-◌, ◌^◌, ◌<◌, ◌≤◌, Bool, true, false, cond, ◌&&◌, nat_le, codes, IsTrue, Option, Some, None, Result, Ok, Err, List, [], ◌∷◌, ◌++◌, refl, sym, ap, subst, ◌∙◌, arith}
+use Rattle.std.proofs.Common.{◌≡◌, ℕ, ◌-◌, ◌^◌, ◌<◌, true, ◌&&◌, nat_le, codes, Option, Some, None, Ok, List, [], ◌∷◌, ◌++◌, refl, ap, subst, ◌∙◌, arith}
 use Rattle.eris_base.specs.declared.ids.ClientId.{ClientId}
 use Rattle.eris_base.specs.declared.ids.Epoch.{Epoch}
 use Rattle.eris_base.specs.declared.ids.Node.{Node}
@@ -10,27 +10,21 @@ use Rattle.eris_txn.specs.declared.op.Op.{Op}
 use Rattle.eris_txn.specs.PlanValues.{PlanValue}
 use Rattle.eris_script.specs.declared.event.Event.{Event}
 use Rattle.eris_script.specs.declared.event.Event.TheVariants as event
-use Rattle.eris_script.specs.declared.fixed_words.LineWord.{LineWord}
-use Rattle.eris_script.specs.declared.fixed_words.LineWord.TheVariants as w
-use Rattle.eris_script.specs.declared.line.Line.{Line}
-use Rattle.eris_script.specs.declared.line.Line.TheVariants as line
-use Rattle.eris_script.specs.declared.reason.Reason.{Reason}
 use Rattle.eris_script.specs.Decimal.{decimal}
-use Rattle.eris_script.specs.EventText.{epoch_words, event_words, node_words}
+use Rattle.eris_script.specs.EventText.{epoch_words, node_words}
 use Rattle.eris_script.specs.Fields.{client, count, hex, hex_word, number, pair_words, replica, two_numbers, txn}
-use Rattle.eris_script.specs.FixedWords.{line_word, line_word_text}
-use Rattle.eris_script.specs.Forms.{◌>>=◌, ended, pair, whole}
-use Rattle.eris_script.specs.LineForms.{abort_of, at_replica, deliver_of, epoch, epoch_of, fits_event, fits_node, general_of, line_behind, node_form, noise_of, one, retry_of, said_by, submit_of}
+use Rattle.eris_script.specs.Forms.{◌>>=◌, pair, whole}
+use Rattle.eris_script.specs.LineForms.{abort_of, at_replica, deliver_of, epoch, epoch_of, fits_node, general_of, node_form, noise_of, retry_of, submit_of}
 use Rattle.eris_script.specs.OpForms.{are_ops, ops_of}
 use Rattle.eris_script.specs.OpText.{ops_words}
 use Rattle.eris_script.specs.PlanForms.{is_plan, plan_of}
-use Rattle.eris_script.specs.Spelling.{Says, SaysTimes, Spells, SpellsGeneral, SpellsPlan}
+use Rattle.eris_script.specs.Spelling.{Says, SaysTimes, SpellsPlan}
 use Rattle.eris_script.proofs.FieldLaws.{is_client, is_count, is_replica, is_txn, le_true, true_le}
-use Rattle.eris_script.proofs.FormLaws.{IsForm, bind_ok, both, ended_is, is_pair, left_of, ok_is, right_of, whole_again, whole_takes}
+use Rattle.eris_script.proofs.FormLaws.{bind_ok, both, is_pair, ok_is, whole_again, whole_takes}
 use Rattle.eris_script.proofs.HexLaws.{is_hex}
 use Rattle.eris_script.proofs.NodeLaws.{is_epoch, is_node}
-use Rattle.eris_script.proofs.PlanLaws.{ops_again, ops_take, plan_again, plan_take}
-use Rattle.eris_script.proofs.TableLaws.{is_line_word}
+use Rattle.eris_script.proofs.OpListLaws.{ops_again, ops_take}
+use Rattle.eris_script.proofs.PlanLaws.{plan_again, plan_take}
 
 -- EACH KIND OF LINE, BEHIND ITS FIRST WORD
 

@@ -1,5 +1,5 @@
 -- A node that gets noise is read as just what it spells, and so is an epoch.
-use Rattle.std.proofs.Common.{◌≡◌, ℕ, true, List, [], ◌∷◌, ◌++◌, codes, Ok, refl, subst}
+use Rattle.std.proofs.Common.{◌≡◌, ℕ, true, List, [], ◌∷◌, codes, Ok, refl, subst}
 use Rattle.eris_base.specs.declared.ids.Node.{Node}
 use Rattle.eris_base.specs.declared.ids.Node.TheVariants as node
 use Rattle.eris_script.specs.declared.fixed_words.NodeWord.{NodeWord}

@@ -1,11 +1,11 @@
 -- An operation is read as just what it spells.
-use Rattle.std.proofs.Common.{◌≡◌, ℕ, true, List, [], ◌∷◌, ◌++◌, codes, Ok, refl}
+use Rattle.std.proofs.Common.{◌≡◌, ℕ, true, List, [], ◌∷◌, codes, Ok, refl}
 use Rattle.eris_txn.specs.declared.op.Op.{Op}
 use Rattle.eris_txn.specs.declared.op.Op.TheVariants.{Get, Put, Del, Add, Cas}
 use Rattle.eris_script.specs.declared.fixed_words.OpWord.{OpWord}
 use Rattle.eris_script.specs.declared.fixed_words.OpWord.TheVariants as w
 use Rattle.eris_script.specs.Fields.{number, value, key}
-use Rattle.eris_script.specs.FixedWords.{op_word, op_word_text}
+use Rattle.eris_script.specs.FixedWords.{op_word}
 use Rattle.eris_script.specs.Forms.{pair}
 use Rattle.eris_script.specs.OpForms.{op_behind, fits_op, op}
 use Rattle.eris_script.specs.OpText.{op_words}

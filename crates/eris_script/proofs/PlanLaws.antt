@@ -1,11 +1,9 @@
--- A plan is read as just what it spells, and so are the operations of an independent transaction.
-use Rattle.std.proofs.Common.{◌≡◌, ◌==◌, ℕ, suc, ◌<◌, ◌≤◌, Bool, true, false, not, cond, ◌&&◌, ◌||◌, nat_le, nat_lt, bytes_eq, codes, is_none, Option, Some, None, Result, Ok, Err, List, [], ◌∷◌, ◌++◌, length, map, refl, sym, ap, subst, ◌∙◌, append_assoc, arith}
+-- A plan is read as just what it spells.
+use Rattle.std.proofs.Common.{◌≡◌, ℕ, Bool, true, false, cond, ◌&&◌, ◌||◌, nat_le, nat_lt, codes, is_none, Option, Some, None, Ok, Err, List, [], ◌∷◌, ◌++◌, length, map, refl, sym, ap, subst, ◌∙◌, append_assoc, arith}
 use Rattle.std.specs.List.{flat_map, list_all}
 use Rattle.std.proofs.lemmas.Bool.Decides.{nat_tests}
-use Rattle.std.proofs.lemmas.List.Concat.{flat_map-append, flat_map-cons}
-use Rattle.std.proofs.lemmas.Slice.Eq.{bytes_eq-Decides}
+use Rattle.std.proofs.lemmas.List.Concat.{flat_map-cons}
 use Rattle.eris_txn.specs.declared.key.Key.{Key}
-use Rattle.eris_txn.specs.declared.op.Op.{Op}
 use Rattle.eris_txn.specs.declared.plan.Guard.{Guard}
 use Rattle.eris_txn.specs.declared.plan.PlanFault.{PlanFault}
 use Rattle.eris_txn.specs.declared.plan.PlanFault.TheVariants as fault
@@ -14,146 +12,17 @@ use Rattle.eris_txn.specs.PlanFaults.{plan_fault}
 use Rattle.eris_txn.specs.PlanValues.{PlanValue}
 use Rattle.eris_script.specs.declared.clause.Clause.{Clause}
 use Rattle.eris_script.specs.declared.clause.Clause.TheVariants as clause
-use Rattle.eris_script.specs.declared.reason.Reason.{Reason}
 use Rattle.eris_script.specs.declared.reason.Reason.TheVariants as reason
-use Rattle.eris_script.specs.Fields.{key, last_shard, read_key}
-use Rattle.eris_script.specs.Forms.{Read, ◌>>=◌, expect, is_next, more, said}
-use Rattle.eris_script.specs.OpForms.{all_ops, are_ops, few_ops, fits_op, most, op, ops_of}
-use Rattle.eris_script.specs.OpText.{next_op_words, op_words, ops_words}
-use Rattle.eris_script.specs.PlanForms.{all_clauses, all_keys, clause_form, clause_words, fits_clause, fits_guard, fits_setting, guards_in, is_plan, keys_of, plan_of, planned, settings_in, unless_fault}
+use Rattle.eris_script.specs.Fields.{key}
+use Rattle.eris_script.specs.Forms.{◌>>=◌, expect, more}
+use Rattle.eris_script.specs.OpForms.{most}
+use Rattle.eris_script.specs.PlanForms.{all_clauses, all_keys, clause_form, clause_words, fits_clause, fits_guard, fits_setting, guards_in, is_plan, plan_of, planned, settings_in, unless_fault}
 use Rattle.eris_script.specs.PlanText.{guard_words, plan_words, setting_words}
 use Rattle.eris_script.specs.Spelling.{SpellsPlan}
 use Rattle.eris_script.specs.Words.{key_word}
 use Rattle.eris_script.proofs.ClauseLaws.{is_clause}
-use Rattle.eris_script.proofs.FieldLaws.{is_key, key_read, le_true, true_le}
-use Rattle.eris_script.proofs.FormLaws.{are_plain, bind_ok, both, each_plain, expect_ok, is_plain, left_of, more_again, more_takes, ok_is, plain-append, right_of}
-use Rattle.eris_script.proofs.OpLaws.{is_op}
-
--- OPERATIONS
-
-few_is : (version : ℕ) (ops taken : List Op) → few_ops version ops ≡ Ok taken → (ops ≡ taken) × (length ops ≤ most version)
-few_is version ops taken read = of_test (nat_lt (most version) (length ops)) refl read
-  where
-    of_test : (test : Bool) → test ≡ nat_lt (most version) (length ops) → cond test (Err reason.TooMany) (Ok ops) ≡ Ok taken → (ops ≡ taken) × (length ops ≤ most version)
-    of_test true is read = absurd cc
-    of_test false is read = (ok_is ops taken read, grind (arith, nat_tests))
-
-pub record OpsTaken (version : ℕ) (words : List (List ℕ)) (ops : List Op) : Type 0 where
-  pub parts : words ≡ ops_words ops
-  pub fits : are_ops version ops ≡ true
-
-pub ops_take : (version : ℕ) (words : List (List ℕ)) (ops : List Op) → ops_of version words ≡ Ok ops → OpsTaken version words ops
-unfolding ops_of all_ops op
-ops_take version words ops read =
-    let a = bind_ok (all_ops version words) (few_ops version) ops read in
-    let b = bind_ok ((op version).read words) (λ first. more (op version) first.1 >>= λ others. Ok (first.0 ∷ others)) a.0 a.1 in
-    let c = bind_ok (more (op version) b.0.1) (λ others. Ok (b.0.0 ∷ others)) a.0 b.2 in
-    let t = (is_op version).takes words b.0.0 b.0.1 b.1 in
-    let u = more_takes (op version) (is_op version) (length b.0.1) b.0.1 c.0 c.1 in
-    let few = few_is version a.0 ops a.2 in
-    let same : b.0.0 ∷ c.0 ≡ ops = ok_is (b.0.0 ∷ c.0) a.0 c.2 ∙ few.0 in
-    let size : length (b.0.0 ∷ c.0) ≤ most version = subst (λ (z : List Op). length z ≤ most version) (sym (ok_is (b.0.0 ∷ c.0) a.0 c.2)) few.1 in
-    let made : OpsTaken version words (b.0.0 ∷ c.0) = record {
-      parts = t.parts ∙ ap (λ (z : List (List ℕ)). op_words b.0.0 ++ z) u.parts;
-      fits = both (nat_lt 0 (length (b.0.0 ∷ c.0)) && nat_le (length (b.0.0 ∷ c.0)) (most version)) (list_all (fits_op version) (b.0.0 ∷ c.0))
-          (both (nat_lt 0 (length (b.0.0 ∷ c.0))) (nat_le (length (b.0.0 ∷ c.0)) (most version)) (grind (arith, nat_tests)) (le_true (length (b.0.0 ∷ c.0)) (most version) size))
-          (both (fits_op version b.0.0) (list_all (fits_op version) c.0) t.fits u.fits);
-    } in
-    subst (λ (z : List Op). OpsTaken version words z) same made
-
-pub ops_again : (version : ℕ) (ops : List Op) → are_ops version ops ≡ true → ops_of version (ops_words ops) ≡ Ok ops
-unfolding ops_of all_ops op
-ops_again version [] fine = absurd cc
-ops_again version (first ∷ others) fine =
-    let sized = left_of (nat_lt 0 (length (first ∷ others)) && nat_le (length (first ∷ others)) (most version)) (list_all (fits_op version) (first ∷ others)) fine in
-    let few = true_le (length (first ∷ others)) (most version) (right_of (nat_lt 0 (length (first ∷ others))) (nat_le (length (first ∷ others)) (most version)) sized) in
-    let all = right_of (nat_lt 0 (length (first ∷ others)) && nat_le (length (first ∷ others)) (most version)) (list_all (fits_op version) (first ∷ others)) fine in
-    let here = left_of (fits_op version first) (list_all (fits_op version) others) all in
-    let rest = right_of (fits_op version first) (list_all (fits_op version) others) all in
-    let small : nat_lt (most version) (length (first ∷ others)) ≡ false = grind (arith, nat_tests) in
-    ap (λ r. r >>= (λ x. more (op version) x.1 >>= λ others. Ok (x.0 ∷ others)) >>= few_ops version) ((is_op version).again first (flat_map next_op_words others) here)
-    ∙ ap (λ r. r >>= (λ others. Ok (first ∷ others)) >>= few_ops version) (more_again (op version) (is_op version) others rest)
-    ∙ ap (λ test. cond test (Err reason.TooMany) (Ok (first ∷ others))) small
-
-pub ops_plain : (version : ℕ) (ops : List Op) → are_ops version ops ≡ true → are_plain (ops_words ops) ≡ true
-unfolding op
-ops_plain version [] fine = refl
-ops_plain version (first ∷ others) fine =
-    let all = right_of (nat_lt 0 (length (first ∷ others)) && nat_le (length (first ∷ others)) (most version)) (list_all (fits_op version) (first ∷ others)) fine in
-    let here = left_of (fits_op version first) (list_all (fits_op version) others) all in
-    let rest = right_of (fits_op version first) (list_all (fits_op version) others) all in
-    plain-append (op_words first) (flat_map next_op_words others) ((is_op version).plain first here) (each_plain (op version) (is_op version) others rest)
-
--- KEYS
-
--- what a word and those behind it give, by whether the word is `;`
-abbrev keys_by : ℕ → List ℕ → List (List ℕ) → Option Key → Bool → Read (List Key) → Read (List Key)
-keys_by version word words found test later =
-    cond {A = Read (List Key)} test (Ok ([], word ∷ words)) (◌>>=◌ {B = List Key × List (List ℕ)} (said found reason.Key) (λ k. later >>= λ ks. Ok (k ∷ ks.0, ks.1)))
-
-pub record KeysTaken (version : ℕ) (words : List (List ℕ)) (ks : List Key) (rest : List (List ℕ)) : Type 0 where
-  pub parts : words ≡ map key_word ks ++ rest
-  pub fits : list_all (key version).fits ks ≡ true
-
-keys_take : (version : ℕ) (words : List (List ℕ)) (ks : List Key) (rest : List (List ℕ)) → keys_of version words ≡ Ok (ks, rest) → KeysTaken version words ks rest
-unfolding keys_of key
-keys_take version [] ks rest read =
-    subst (λ (z : List Key × List (List ℕ)). KeysTaken version [] z.0 z.1) (ok_is ([], []) (ks, rest) read) (record { parts = refl; fits = refl })
-keys_take version (word ∷ words) ks rest read = of_test (bytes_eq word (codes ";")) (keys_take version words) read
-  where
-    of_test : (test : Bool) → ((ks : List Key) (rest : List (List ℕ)) → keys_of version words ≡ Ok (ks, rest) → KeysTaken version words ks rest) →
-        keys_by version word words (read_key version word) test (keys_of version words) ≡ Ok (ks, rest) →
-        KeysTaken version (word ∷ words) ks rest
-    of_test true later found =
-        subst (λ (z : List Key × List (List ℕ)). KeysTaken version (word ∷ words) z.0 z.1) (ok_is ([], word ∷ words) (ks, rest) found) (record { parts = refl; fits = refl })
-    of_test false later found =
-        let a = bind_ok (said (read_key version word) reason.Key) (λ k. keys_of version words >>= λ ks. Ok (k ∷ ks.0, ks.1)) (ks, rest) found in
-        let b = bind_ok (keys_of version words) (λ ks. Ok (a.0 ∷ ks.0, ks.1)) (ks, rest) a.2 in
-        let t = (is_key version).takes (word ∷ words) a.0 words (ap (λ r. r >>= λ x. Ok (x, words)) a.1) in
-        let u = later b.0.0 b.0.1 b.1 in
-        let made : KeysTaken version (word ∷ words) (a.0 ∷ b.0.0) b.0.1 = record {
-          parts = t.parts ∙ ap (λ (z : List (List ℕ)). key_word a.0 ∷ z) u.parts;
-          fits = both ((key version).fits a.0) (list_all (key version).fits b.0.0) t.fits u.fits;
-        } in
-        subst (λ (z : List Key × List (List ℕ)). KeysTaken version (word ∷ words) z.0 z.1) (ok_is (a.0 ∷ b.0.0, b.0.1) (ks, rest) b.2) made
-
--- a word that begins a clause is no key
-no_key : (version : ℕ) (word : List ℕ) (k : Key) → read_key version word ≡ Some k → bytes_eq word (codes ";") ≡ false
-no_key version word k read = of_test (bytes_eq word (codes ";")) refl
-  where
-    none_there : read_key version (codes ";") ≡ Some k → ⊥
-    none_there found = cc
-
-    of_test : (test : Bool) → test ≡ bytes_eq word (codes ";") → test ≡ false
-    of_test true is = absurd (none_there (sym (ap (read_key version) ((bytes_eq-Decides word (codes ";")).0 (sym is))) ∙ read))
-    of_test false is = refl
-
--- what may stand behind the keys
-abbrev pub stops : List (List ℕ) → Bool
-stops [] = true
-stops (word ∷ words) = bytes_eq word (codes ";")
-
-keys_again : (version : ℕ) (ks : List Key) (rest : List (List ℕ)) → list_all (key version).fits ks ≡ true → stops rest ≡ true →
-    keys_of version (map key_word ks ++ rest) ≡ Ok (ks, rest)
-unfolding keys_of key
-keys_again version [] [] fine stopped = refl
-keys_again version [] (word ∷ words) fine stopped = rw stopped refl
-keys_again version (k ∷ ks) rest fine stopped =
-    let here = left_of ((key version).fits k) (list_all (key version).fits ks) fine in
-    let later = keys_again version ks rest (right_of ((key version).fits k) (list_all (key version).fits ks) fine) stopped in
-    let read : read_key version (key_word k) ≡ Some k = key_read version k here in
-    let behind : List (List ℕ) = map key_word ks ++ rest in
-    ap (λ test. keys_by version (key_word k) behind (read_key version (key_word k)) test (keys_of version behind)) (no_key version (key_word k) k read)
-    ∙ ap (λ found. keys_by version (key_word k) behind found false (keys_of version behind)) read
-    ∙ ap (keys_by version (key_word k) behind (Some k) false) later
-
-keys_plain : (version : ℕ) (ks : List Key) → list_all (key version).fits ks ≡ true → are_plain (map key_word ks) ≡ true
-unfolding key
-keys_plain version [] fine = refl
-keys_plain version (k ∷ ks) fine =
-    both (is_plain (key_word k)) (are_plain (map key_word ks))
-    (left_of (is_plain (key_word k)) true ((is_key version).plain k (left_of ((key version).fits k) (list_all (key version).fits ks) fine)))
-    (keys_plain version ks (right_of ((key version).fits k) (list_all (key version).fits ks) fine))
+use Rattle.eris_script.proofs.FormLaws.{are_plain, bind_ok, both, each_plain, expect_ok, left_of, more_again, more_takes, ok_is, plain-append, right_of}
+use Rattle.eris_script.proofs.KeyListLaws.{all_keys_again, all_keys_take, keys_plain, stops}
 
 -- CLAUSES
 
@@ -237,35 +106,14 @@ planned_again version plan few_keys few_guards sound =
     rw (few_false (length plan.keys) (most version) few_keys, few_false (length plan.guards) (most version) few_guards)
     (none_is (plan_fault plan.keys plan.guards plan.settings) plan sound)
 
-all_keys_take : (version : ℕ) (words : List (List ℕ)) (ks : List Key) (rest : List (List ℕ)) → all_keys version words ≡ Ok (ks, rest) → KeysTaken version words ks rest
-unfolding all_keys key
-all_keys_take version words ks rest read =
-    let a = bind_ok ((key version).read words) (λ first. keys_of version first.1 >>= λ others. Ok (first.0 ∷ others.0, others.1)) (ks, rest) read in
-    let b = bind_ok (keys_of version a.0.1) (λ others. Ok (a.0.0 ∷ others.0, others.1)) (ks, rest) a.2 in
-    let t = (is_key version).takes words a.0.0 a.0.1 a.1 in
-    let u = keys_take version a.0.1 b.0.0 b.0.1 b.1 in
-    let made : KeysTaken version words (a.0.0 ∷ b.0.0) b.0.1 = record {
-      parts = t.parts ∙ ap (λ (z : List (List ℕ)). key_word a.0.0 ∷ z) u.parts;
-      fits = both ((key version).fits a.0.0) (list_all (key version).fits b.0.0) t.fits u.fits;
-    } in
-    subst (λ (z : List Key × List (List ℕ)). KeysTaken version words z.0 z.1) (ok_is (a.0.0 ∷ b.0.0, b.0.1) (ks, rest) b.2) made
-
-all_keys_again : (version : ℕ) (first : Key) (ks : List Key) (rest : List (List ℕ)) → list_all (key version).fits (first ∷ ks) ≡ true → stops rest ≡ true →
-    all_keys version (key_word first ∷ (map key_word ks ++ rest)) ≡ Ok (first ∷ ks, rest)
-unfolding all_keys key
-all_keys_again version first ks rest fine stopped =
-    let behind : List (List ℕ) = map key_word ks ++ rest in
-    ap (λ r. ◌>>=◌ {B = List Key × List (List ℕ)} r (λ k. keys_of version k.1 >>= λ others. Ok (k.0 ∷ others.0, others.1)))
-    ((is_key version).again first behind (left_of ((key version).fits first) (list_all (key version).fits ks) fine))
-    ∙ ap (λ r. ◌>>=◌ {B = List Key × List (List ℕ)} r (λ others. Ok (first ∷ others.0, others.1)))
-    (keys_again version ks rest (right_of ((key version).fits first) (list_all (key version).fits ks) fine) stopped)
-
 pub record PlanTaken (version : ℕ) (words : List (List ℕ)) (plan : PlanValue) : Type 0 where
   pub spelled : SpellsPlan words plan
   pub fits : is_plan version plan ≡ true
 
-all_six : (a b c d e f : Bool) → a ≡ true → b ≡ true → c ≡ true → d ≡ true → e ≡ true → f ≡ true → (a && b && c && d && e && f) ≡ true
-all_six a b c d e f ha hb hc hd he hf = rw (ha, hb, hc, hd, he, hf) refl
+plan_fits : (version : ℕ) (keys : List Key) (guards : List Guard) (settings : List Setting) → list_all (key version).fits keys ≡ true → list_all (fits_guard version) guards ≡ true →
+    list_all (fits_setting version) settings ≡ true → nat_le (length keys) (most version) ≡ true → nat_le (length guards) (most version) ≡ true →
+    is_none (plan_fault keys guards settings) ≡ true → is_plan version (record { keys = keys; guards = guards; settings = settings }) ≡ true
+plan_fits version keys guards settings fit_keys fit_guards fit_settings few_keys few_guards sound = rw (fit_keys, fit_guards, fit_settings, few_keys, few_guards, sound) refl
 
 pub plan_take : (version : ℕ) (words : List (List ℕ)) (plan : PlanValue) → plan_of version words ≡ Ok plan → PlanTaken version words plan
 unfolding plan_of all_clauses clause_form
@@ -288,7 +136,7 @@ plan_take version words plan read =
         guards = refl;
         settings = refl;
       };
-      fits = all_six _ _ _ _ _ _ t.fits (guards_fit version c.0 u.fits) (settings_fit version c.0 u.fits) m.few_keys m.few_guards m.sound;
+      fits = plan_fits version a.0.0 (guards_in c.0) (settings_in c.0) t.fits (guards_fit version c.0 u.fits) (settings_fit version c.0 u.fits) m.few_keys m.few_guards m.sound;
     } in
     subst (λ (z : PlanValue). PlanTaken version words z) m.same made
 

@@ -1,10 +1,7 @@
 -- What a line says is what it spells, and an event that is printed is read back.
-use Rattle.std.proofs.Common.{◌≡◌, ◌↔◌, ℕ, ◌^◌, ◌<◌, Bool, true, false, cond, ◌&&◌, codes, IsTrue, Option, Some, None, Result, Ok, Err, List, [], ◌∷◌, ◌++◌, refl, sym, ap, subst, ◌∙◌, lit<}
-use Rattle.std.specs.List.{join_with_byte}
+use Rattle.std.proofs.Common.{◌≡◌, ℕ, Bool, true, false, cond, codes, IsTrue, Option, Some, None, Result, Ok, List, [], ◌∷◌, ◌++◌, refl, sym, ap, subst, ◌∙◌, lit<}
 use Rattle.std.proofs.lemmas.Fmt.{decimal_digit}
 use Rattle.eris_base.specs.declared.ids.Epoch.{Epoch}
-use Rattle.eris_base.specs.declared.ids.ReplicaId.{ReplicaId}
-use Rattle.eris_base.specs.declared.ids.ShardId.{ShardId}
 use Rattle.eris_script.specs.declared.event.Event.{Event}
 use Rattle.eris_script.specs.declared.event.Event.TheVariants as event
 use Rattle.eris_script.specs.declared.fixed_words.LineWord.{LineWord}
@@ -18,18 +15,19 @@ use Rattle.eris_script.specs.EventText.{epoch_words, event_text, event_words, no
 use Rattle.eris_script.specs.Fields.{client, count, hex, hex_word, number, pair_words, replica, two_numbers, txn}
 use Rattle.eris_script.specs.FixedWords.{line_word, line_word_text}
 use Rattle.eris_script.specs.Forms.{◌>>=◌, ended, whole}
-use Rattle.eris_script.specs.LineForms.{at_replica, epoch, fits_event, fits_node, line_behind, line_of, line_saying, node_form, one, said_by}
+use Rattle.eris_script.specs.LineForms.{epoch, fits_event, fits_node, line_behind, line_of, line_saying, node_form, one, said_by}
 use Rattle.eris_script.specs.OpForms.{are_ops}
 use Rattle.eris_script.specs.OpText.{ops_words}
 use Rattle.eris_script.specs.PlanForms.{is_plan}
 use Rattle.eris_script.specs.PlanText.{plan_words}
-use Rattle.eris_script.specs.Spelling.{IsReadAsSpelled, Says, SaysTimes, Spells}
+use Rattle.eris_script.specs.Spelling.{IsReadAsSpelled, Says, SaysTimes}
 use Rattle.eris_script.proofs.FieldLaws.{is_client, is_count, is_replica, is_txn}
-use Rattle.eris_script.proofs.FormLaws.{are_plain, bind_ok, both, ended_is, left_of, ok_is, plain-append, right_of}
+use Rattle.eris_script.proofs.FormLaws.{are_plain, bind_ok, left_of, ok_is, plain-append, right_of}
 use Rattle.eris_script.proofs.HexLaws.{is_hex}
 use Rattle.eris_script.proofs.LineLaws.{abort_again, abort_takes, at_again, at_takes, deliver_again, deliver_takes, general_again, general_takes, noise_again, noise_takes, retry_again, retry_takes, submit_again, submit_takes, times_again, times_take}
-use Rattle.eris_script.proofs.NodeLaws.{is_epoch, is_node}
-use Rattle.eris_script.proofs.PlanLaws.{ops_plain, plan_plain, plan_printed}
+use Rattle.eris_script.proofs.NodeLaws.{is_node}
+use Rattle.eris_script.proofs.OpListLaws.{ops_plain}
+use Rattle.eris_script.proofs.PlanLaws.{plan_plain, plan_printed}
 use Rattle.eris_script.proofs.SplitLaws.{begins_with, words_joined}
 use Rattle.eris_script.proofs.TableLaws.{is_line_word}
 

@@ -1,6 +1,6 @@
 -- Words joined by spaces are cut at these spaces.
-use Rattle.std.proofs.Common.{◌≡◌, ◌==◌, ℕ, Bool, true, false, not, cond, ◌&&◌, List, [], ◌∷◌, ◌++◌, ap, sym, ◌∙◌, refl}
-use Rattle.std.specs.List.{join_with_byte, onto_first, slice_split, list_all}
+use Rattle.std.proofs.Common.{◌≡◌, ◌==◌, ℕ, Bool, true, false, not, cond, List, [], ◌∷◌, ◌++◌, ap, sym, ◌∙◌, refl}
+use Rattle.std.specs.List.{join_with_byte, onto_first, slice_split}
 use Rattle.eris_script.specs.Cuts.{is_skipped, is_space, words}
 use Rattle.eris_script.proofs.FormLaws.{is_plain, are_plain, left_of, right_of}
 

@@ -1,5 +1,5 @@
 -- A word of a table is read as just the entry that it spells.
-use Rattle.std.proofs.Common.{◌≡◌, ℕ, Bool, true, false, cond, find, bytes_eq, codes, Option, Some, None, List, [], ◌∷◌, refl, sym, ap, ◌∙◌}
+use Rattle.std.proofs.Common.{◌≡◌, ℕ, Bool, true, false, cond, bytes_eq, Some, List, [], ◌∷◌, refl, sym, ap, ◌∙◌}
 use Rattle.std.proofs.lemmas.Slice.Eq.{bytes_eq-Decides}
 use Rattle.eris_script.specs.declared.fixed_words.ClauseWord.{ClauseWord}
 use Rattle.eris_script.specs.declared.fixed_words.ClauseWord.TheVariants as clause

@@ -1,6 +1,5 @@
 -- What a line behind a script's header says.
-use Rattle.std.specs.Prelude.{ℕ, ◌&&◌, Bool, true, Option, Some, None, Result, Ok, Err, List, [], ◌∷◌, codes, if◌then◌else◌}
-use Rattle.eris_base.specs.declared.ids.ClientId.{ClientId}
+use Rattle.std.specs.Prelude.{ℕ, ◌&&◌, Bool, true, Option, Some, None, Result, Ok, List, [], ◌∷◌, if◌then◌else◌}
 use Rattle.eris_base.specs.declared.ids.Epoch.{Epoch}
 use Rattle.eris_base.specs.declared.ids.Node.{Node}
 use Rattle.eris_base.specs.declared.ids.Node.TheVariants as node

@@ -3,7 +3,6 @@ use Rattle.std.specs.Prelude.{ℕ, ◌+◌, Result, Ok, Err, List, [], ◌∷◌
 use Rattle.eris_base.specs.ConfigLimits.{ConfigValue}
 use Rattle.eris_script.specs.declared.event.Event.{Event}
 use Rattle.eris_script.specs.declared.event.Event.TheVariants as event
-use Rattle.eris_script.specs.declared.header.Header.{Header}
 use Rattle.eris_script.specs.declared.line.Line.{Line}
 use Rattle.eris_script.specs.declared.line.Line.TheVariants as line
 use Rattle.eris_script.specs.declared.reason.Reason.{Reason}

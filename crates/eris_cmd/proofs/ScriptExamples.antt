@@ -1,2 +1,0 @@
--- Small scripts, computed.
-use Rattle.std.proofs.Common.{◌≡◌, Ok, Err, [], ◌∷◌, ◌++◌, codes, refl}
