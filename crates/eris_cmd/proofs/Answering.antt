@@ -3,43 +3,46 @@ use Rattle.std.proofs.Common.{◌≡◌, ◌↔◌, ℕ, ◌≤◌, Bool, true, 
 use Rattle.std.specs.Io.KnownBytes.{Appends}
 use Rattle.std.proofs.lemmas.Bool.Decides.{nat_tests}
 use Rattle.std.proofs.lemmas.Slice.Eq.{bytes_eq-Decides}
+use Rattle.eris_script.specs.Scripts.{BadLine}
 use Rattle.eris_world.specs.declared.thin_event.Event.{Event}
 use Rattle.eris_world.specs.ThinOrder.{Good}
 use Rattle.eris_world.specs.ThinWorld.{WorldState, run}
 use Rattle.eris_cmd.specs.declared.due.Due.{Due}
 use Rattle.eris_cmd.specs.declared.status.Status.TheVariants.{Done, TooLarge}
-use Rattle.eris_cmd.specs.Calls.{input_limit, Comes, IsAnswerTo, status_for, ReportsRun}
+use Rattle.eris_cmd.specs.Calls.{answer_to, input_limit, Comes, status_for, ReportsRun}
 use Rattle.eris_cmd.specs.Dues.{IsDue}
 use Rattle.eris_cmd.specs.Texts.{too_large_text}
-use Rattle.eris_cmd.specs.ThinScript.{BadLine, script}
+use Rattle.eris_cmd.specs.ThinScript.{outcome}
+use Rattle.eris_cmd.proofs.ScriptLaws.{script_taken}
 
-reports_what : {left left' taken taken' : Option (List ℕ)} (bytes text : List ℕ) (large : Bool) (said : Result (List Event) BadLine)
+reports_what : {left left' taken taken' : Option (List ℕ)} (bytes : List ℕ) (large : Bool) (found : Result WorldState BadLine)
     → ((events : List Event) (world : WorldState) → run events ≡ Ok world → Good world)
-    → Comes left left' bytes → nat_lt input_limit (length bytes) ≡ large → script bytes ≡ said
-    → cond large (TooLarge 0) (status_for said) ≡ Done → MatchBool large (text ≡ too_large_text) (IsAnswerTo said text)
-    → Appends taken taken' text → ReportsRun left left' taken taken'
-reports_what bytes text true said law comes size says done answer written = cc
-reports_what bytes text false (Err bad) law comes size says done answer written = cc
-reports_what {taken = taken} {taken' = taken'} bytes text false (Ok events) law comes size says done (world, ran, same) written =
+    → Comes left left' bytes → nat_lt input_limit (length bytes) ≡ large → outcome bytes ≡ found
+    → cond large (TooLarge 0) (status_for found) ≡ Done → Appends taken taken' (cond large too_large_text (answer_to found))
+    → ReportsRun left left' taken taken'
+reports_what bytes true found law comes size is done written = absurd cc
+reports_what bytes false (Err bad) law comes size is done written = absurd cc
+reports_what bytes false (Ok world) law comes size is done written =
     let within : length bytes ≤ input_limit = grind (arith, nat_tests) in
+    let script = script_taken bytes world is in
     record {
       bytes = bytes;
       read = record { came = comes.came; ended = comes.ended within; within = within };
-      events = events;
-      is_script = says;
+      events = script.events;
+      is_script = script.is_script;
       world = world;
-      ran = ran;
-      good = law events world ran;
-      written = subst (λ text. Appends taken taken' text) same written;
+      ran = script.ran;
+      good = law script.events world script.ran;
+      written = written;
     }
 
 -- where the status due is Done, a run was reported
 pub reports_run : {left left' taken taken' : Option (List ℕ)} {due : Due}
     → ((events : List Event) (world : WorldState) → run events ≡ Ok world → Good world)
     → IsDue left left' due → Appends taken taken' due.text → due.status ≡ Done → ReportsRun left left' taken taken'
-reports_run {due = due} law is_due written done =
-    reports_what is_due.bytes due.text (nat_lt input_limit (length is_due.bytes)) (script is_due.bytes) law is_due.came refl refl
-    (sym is_due.status ∙ done) is_due.text written
+reports_run {taken = taken} {taken' = taken'} {due = due} law is_due written done =
+    reports_what is_due.bytes (nat_lt input_limit (length is_due.bytes)) (outcome is_due.bytes) law is_due.came refl refl
+    (sym is_due.status ∙ done) (subst (λ text. Appends taken taken' text) is_due.text written)
 
 one_item : {X : Type 0} (xs : List X) (x : X) → length xs ≡ 1 → x ≡ get_or xs 0 x → xs ≡ x ∷ []
 one_item [] x one first = absurd (omega arith)

@@ -1,6 +1,4 @@
 pub mod Answering
-pub mod FormLemmas
-pub mod LineCuts
 pub mod LineRuns
 pub mod Runs
-pub mod ScriptExamples
+pub mod ScriptLaws

@@ -1,13 +1,19 @@
 -- Runs one after another, and flows.
-use Rattle.std.proofs.Common.{◌≡◌, ℕ, zero, suc, ◌+◌, ◌-◌, ◌≤◌, false, Result, Ok, Err, is_some, List, [], ◌∷◌, ◌++◌, replicate, ap, refl, sym, ◌∙◌, arith}
+use Rattle.std.proofs.Common.{◌≡◌, ℕ, zero, suc, ◌+◌, ◌-◌, ◌≤◌, Bool, true, false, Result, Ok, Err, is_some, List, [], ◌∷◌, ◌++◌, replicate, ap, refl, sym, ◌∙◌, arith}
 use Rattle.std.proofs.lemmas.List.{replicate-append-replicate}
+use Rattle.eris_base.specs.declared.ids.ClientId.{ClientId}
+use Rattle.eris_txn.specs.declared.op.Op.{Op}
+use Rattle.eris_script.specs.declared.event.Event.TheVariants as asked
+use Rattle.eris_script.specs.declared.line.Line.TheVariants as line
 use Rattle.eris_world.specs.declared.thin_event.Event.{Event}
-use Rattle.eris_world.specs.declared.thin_event.Event.TheVariants.{Flow}
+use Rattle.eris_world.specs.declared.thin_event.Event.TheVariants.{Flow, Submit}
 use Rattle.eris_world.specs.declared.thin_refusal.Refusal.{Refusal}
+use Rattle.eris_world.specs.declared.thin_refusal.Refusal.TheVariants.{NoSuchClient, NoSuchShard}
 use Rattle.eris_world.specs.ThinKept.{KeptWorld}
 use Rattle.eris_world.specs.ThinWaiting.{first_of}
-use Rattle.eris_world.specs.ThinWorld.{WorldState, after, run_from, waiting, flowed_by}
-use Rattle.eris_cmd.specs.ThinRuns.{Takes}
+use Rattle.eris_world.specs.ThinWorld.{WorldState, after, are_on_shard, flowed_by, is_client, run_from, submitted, unless, waiting}
+use Rattle.eris_cmd.specs.ThinRuns.{RefusesSaid, Takes, TakesSaid}
+use Rattle.eris_cmd.specs.ThinScript.{refusal_reason, told}
 
 append_after : (first : Result WorldState Refusal) (v : WorldState) (xs ys : List Event)
     → ((next : WorldState) → run_from next xs ≡ Ok v → run_from next (xs ++ ys) ≡ run_from v ys)
@@ -17,7 +23,7 @@ append_after (Ok next) v xs ys later ran = later next ran
 append_after (Err refusal) v xs ys later ran = cc
 
 -- a run of two lists is a run of the first, and then of the second
-run_append : (w v : WorldState) (xs ys : List Event) → run_from w xs ≡ Ok v → run_from w (xs ++ ys) ≡ run_from v ys
+pub run_append : (w v : WorldState) (xs ys : List Event) → run_from w xs ≡ Ok v → run_from w (xs ++ ys) ≡ run_from v ys
 run_append w v [] ys ran = let same : w ≡ v = cc in ap (λ u. run_from u ys) same
 run_append w v (event ∷ xs) ys ran = append_after (after w event) v xs ys (λ next rest. run_append next v xs ys rest) ran
 
@@ -52,3 +58,49 @@ takes_rest {a} {b} n times taken within none =
     let idle : Takes b b (replicate (times - n) Flow) 0 =
     record { ran = flows_idle b.state (times - n) (none_first _ none); unspent = taken.unspent; few = omega arith } in
     rw all (rw (split_flows n (times - n)) (takes_both taken idle))
+
+abbrev taken : WorldState → Result WorldState Refusal
+taken w = Ok w
+
+taken_is : (a b : WorldState) → taken a ≡ Ok b → a ≡ b
+taken_is a b same = cc
+
+-- a submission that is taken counts one
+taken_counts : (w v : WorldState) (c : ClientId) (ops : List Op) → after w (Submit c ops) ≡ Ok v → v.client.submitted ≡ w.client.submitted + 1
+taken_counts w v c ops took = of_tests (is_client c) (are_on_shard ops) took
+  where
+    of_tests : (one on : Bool) → unless one NoSuchClient (unless on NoSuchShard (Ok (submitted w ops))) ≡ Ok v → v.client.submitted ≡ w.client.submitted + 1
+    of_tests true true found = sym (ap (λ (z : WorldState). z.client.submitted) (taken_is (submitted w ops) v found))
+    of_tests true false found = absurd cc
+    of_tests false on found = absurd cc
+
+run_one : (w : WorldState) (event : Event) (made : Result WorldState Refusal) → after w event ≡ made → run_from w (event ∷ []) ≡ made
+run_one w event (Ok v) took = rw (took, run_from) refl
+run_one w event (Err why) took = rw (took, run_from) refl
+
+-- a submission is taken, or refused
+pub takes_submission : (before after_it : KeptWorld) (c : ClientId) (ops : List Op) → after before.state (Submit c ops) ≡ Ok after_it.state → after_it.spent ≡ false →
+    TakesSaid before after_it (line.One (asked.Submit c ops))
+takes_submission before after_it c ops took unspent = record {
+  ran = ap told (run_one before.state (Submit c ops) (Ok after_it.state) took);
+  unspent = unspent;
+  few = let one = taken_counts before.state after_it.state c ops took in omega arith;
+}
+
+pub refuses_submission : (before : KeptWorld) (c : ClientId) (ops : List Op) (why : Refusal) (number : ℕ) → after before.state (Submit c ops) ≡ Err why →
+    RefusesSaid before (line.One (asked.Submit c ops)) number number (refusal_reason why)
+refuses_submission before c ops why number refused = record {
+  refused = ap told (run_one before.state (Submit c ops) (Err why) refused);
+  here = refl;
+}
+
+pub takes_flows : (before after_it : KeptWorld) (times : ℕ) → Takes before after_it (replicate times Flow) 0 → TakesSaid before after_it (line.Flow times)
+takes_flows before after_it times taken = record {
+  ran = ap told taken.ran;
+  unspent = taken.unspent;
+  few = let few = taken.few in omega arith;
+}
+
+pub ruleset submissions = (takes_submission, refuses_submission)
+
+pub ruleset flows = (takes_flows)

@@ -1,10 +1,11 @@
 -- What the top call reads, answers and writes. In the records below `left` and `left'` are the bytes that the source has still
 -- to give, as the call begins and as it returns, and `taken` and `taken'` those that the sink has taken, where they are known.
-use Rattle.std.specs.Prelude.{◌≡◌, ℕ, ◌+◌, ◌≤◌, ⊤, nat_lt, MatchBool, Option, Result, Ok, Err, List, length, if◌then◌else◌}
+use Rattle.std.specs.Prelude.{◌≡◌, ℕ, ◌+◌, ◌≤◌, ⊤, nat_lt, Option, Result, Ok, Err, List, length, if◌then◌else◌}
 use Rattle.std.specs.Io.KnownBytes.{Consumes, IsAtEnd, Appends}
 use Rattle.eris_base.specs.Transfers.{ReadsToEnd, ReadsPast, TakesFront}
 use Rattle.eris_script.specs.declared.reason.Reason.{Reason}
 use Rattle.eris_script.specs.ReportText.{report_text}
+use Rattle.eris_script.specs.Scripts.{BadLine, Script, script}
 use Rattle.eris_world.specs.declared.thin_event.Event.{Event}
 use Rattle.eris_world.specs.ThinOrder.{Good}
 use Rattle.eris_world.specs.ThinReport.{report_of}
@@ -12,7 +13,7 @@ use Rattle.eris_world.specs.ThinWorld.{WorldState, run}
 use Rattle.eris_cmd.specs.declared.status.Status.{Status}
 use Rattle.eris_cmd.specs.declared.status.Status.TheVariants.{Done, CheckedNo, Usage, BadScript, ReadFault, WriteFault, NoMemory, TooLarge}
 use Rattle.eris_cmd.specs.Texts.{bad_script_text, too_large_text}
-use Rattle.eris_cmd.specs.ThinScript.{BadLine, script}
+use Rattle.eris_cmd.specs.ThinScript.{outcome, thin_script}
 
 -- how many bytes a script may have
 abbrev pub input_limit : ℕ
@@ -24,17 +25,17 @@ pub record ReportsRun (left left' taken taken' : Option (List ℕ)) : Type 0 whe
   pub bytes : List ℕ
   pub read : ReadsToEnd left left' input_limit bytes
   pub events : List Event
-  pub is_script : script bytes ≡ Ok events
+  pub is_script : script bytes ≡ Ok (thin_script events)
   pub world : WorldState
   pub ran : run events ≡ Ok world
   pub good : Good world
   pub written : Appends taken taken' (report_text (report_of world))
 
--- BAD SCRIPT: the source was read to its end, and this is the first line that is refused
+-- BAD SCRIPT: the source was read to its end, and this is the first line that the grammar or the world refuses
 pub record RefusesLine (left left' taken taken' : Option (List ℕ)) (line : ℕ) (reason : Reason) : Type 0 where
   pub bytes : List ℕ
   pub read : ReadsToEnd left left' input_limit bytes
-  pub refused : script bytes ≡ Err (record { line = line; reason = reason })
+  pub refused : outcome bytes ≡ Err (record { line = line; reason = reason })
   pub written : Appends taken taken' (bad_script_text line reason)
 
 -- TOO LARGE: more bytes came than a script may have
@@ -48,31 +49,29 @@ pub record Comes (left left' : Option (List ℕ)) (bytes : List ℕ) : Type 0 wh
   pub few : length bytes ≤ input_limit + 1
   pub ended : length bytes ≤ input_limit → IsAtEnd left'
 
--- the text that is due for what a script says
-abbrev pub IsAnswerTo : Result (List Event) BadLine → List ℕ → Type 0
-IsAnswerTo (Ok events) text = (world : WorldState) × (run events ≡ Ok world) × (text ≡ report_text (report_of world))
-IsAnswerTo (Err bad) text = text ≡ bad_script_text bad.line bad.reason
+-- the text that is due for what comes of a script
+abbrev pub answer_to : Result WorldState BadLine → List ℕ
+answer_to (Ok world) = report_text (report_of world)
+answer_to (Err bad) = bad_script_text bad.line bad.reason
 
 -- the text that is due for what came
-abbrev pub IsTextDue : List ℕ → List ℕ → Type 0
-IsTextDue bytes text = MatchBool (nat_lt input_limit (length bytes)) (text ≡ too_large_text) (IsAnswerTo (script bytes) text)
+abbrev pub text_due : List ℕ → List ℕ
+text_due bytes = if nat_lt input_limit (length bytes) then too_large_text else answer_to (outcome bytes)
 
 -- WRITE FAULT: of the text that is due only a front was taken
 pub record StopsWriting (left left' taken taken' : Option (List ℕ)) : Type 0 where
   pub bytes : List ℕ
   pub came : Comes left left' bytes
-  pub text : List ℕ
-  pub due : IsTextDue bytes text
-  pub front : TakesFront taken taken' text
+  pub front : TakesFront taken taken' (text_due bytes)
 
--- the status that is due for what a script says
-abbrev pub status_for : Result (List Event) BadLine → Status
-status_for (Ok events) = Done
+-- the status that is due for what comes of a script
+abbrev pub status_for : Result WorldState BadLine → Status
+status_for (Ok world) = Done
 status_for (Err bad) = BadScript bad.line bad.reason
 
 -- the status that is due for all the bytes of a source
 abbrev pub status_due : List ℕ → Status
-status_due bytes = if nat_lt input_limit (length bytes) then TooLarge 0 else status_for (script bytes)
+status_due bytes = if nat_lt input_limit (length bytes) then TooLarge 0 else status_for (outcome bytes)
 
 -- what holds where the status names a refused line
 abbrev pub IfBadScript : Status → (ℕ → Reason → Type 0) → Type 0

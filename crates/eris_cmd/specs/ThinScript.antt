@@ -1,62 +1,97 @@
--- What the bytes of a script ask of the world, or the first line that is refused.
-use Rattle.std.specs.Prelude.{ℕ, ◌+◌, ◌==◌, Some, None, Result, Ok, Err, List, [], ◌∷◌, ◌++◌, map, replicate, bytes_eq, codes, if◌then◌else◌}
-use Rattle.std.specs.List.{onto_first}
-use Rattle.std.specs.Str.Lines.{strip_carriage_return}
-use Rattle.eris_txn.specs.declared.op.Op.TheVariants as op
+-- What comes of the bytes of a script: the world after its events, or the first line that the grammar or the world refuses. Today
+-- a script asks for one shard, one replica and one client, and its lines are `submit` and `flow`; the grammar's other headers are
+-- refused as none, and its other lines as of no form.
+use Rattle.std.specs.Prelude.{ℕ, ◌+◌, ◌==◌, ◌&&◌, ◌||◌, Bool, Result, Ok, Err, List, [], ◌∷◌, map, replicate, bytes_eq, codes, if◌then◌else◌}
+use Rattle.eris_base.specs.ConfigLimits.{ConfigValue}
+use Rattle.eris_script.specs.declared.event.Event.{Event as Asked}
+use Rattle.eris_script.specs.declared.event.Event.TheVariants as event
+use Rattle.eris_script.specs.declared.header.Header.{Header}
+use Rattle.eris_script.specs.declared.line.Line.{Line}
+use Rattle.eris_script.specs.declared.line.Line.TheVariants as line
 use Rattle.eris_script.specs.declared.reason.Reason.{Reason}
-use Rattle.eris_script.specs.declared.reason.Reason.TheVariants.{Header, Word}
+use Rattle.eris_script.specs.declared.reason.Reason.TheVariants as reason
+use Rattle.eris_script.specs.Cuts.{first_word, is_skipped, lines}
+use Rattle.eris_script.specs.Forms.{◌>>=◌}
+use Rattle.eris_script.specs.Headers.{header_of}
+use Rattle.eris_script.specs.LineForms.{line_of}
+use Rattle.eris_script.specs.Scripts.{BadLine, Script}
 use Rattle.eris_world.specs.declared.thin_event.Event.{Event}
-use Rattle.eris_world.specs.declared.thin_event.Event.TheVariants as event
-use Rattle.eris_cmd.specs.declared.thin_line.ThinLine.{ThinLine}
-use Rattle.eris_cmd.specs.declared.thin_line.ThinLine.TheVariants.{Skip, Put, Flow}
-use Rattle.eris_cmd.specs.ThinLines.{line_of}
+use Rattle.eris_world.specs.declared.thin_event.Event.TheVariants as thin
+use Rattle.eris_world.specs.declared.thin_refusal.Refusal.{Refusal}
+use Rattle.eris_world.specs.declared.thin_refusal.Refusal.TheVariants as refusal
+use Rattle.eris_world.specs.ThinWorld.{WorldState, run_from, start}
 
--- a byte before lines: LF ends a line of its own, any other byte begins the first line
-abbrev pub with_byte : ℕ → List (List ℕ) → List (List ℕ)
-with_byte byte lines = if byte == 10 then [] ∷ lines else onto_first byte lines
+-- one shard of one replica, and one client
+abbrev pub is_one : ConfigValue → Bool
+is_one config = config.shards == 1 && config.f == 0 && config.clients == 1
 
--- each LF ends a line; what stands behind the last LF is a line too, unless it is empty
-unfoldable pub cut_lines : List ℕ → List (List ℕ)
-cut_lines [] = []
-cut_lines (byte ∷ bytes) = with_byte byte (cut_lines bytes)
+abbrev pub version_in : Result Header Reason → Result ℕ Reason
+version_in (Ok header) = if is_one header.config then Ok header.version else Err reason.Header
+version_in (Err why) = Err why
 
--- one CR at a line's end is taken off
-abbrev pub lines : List ℕ → List (List ℕ)
-lines bytes = map strip_carriage_return (cut_lines bytes)
+-- the version that a first line names
+unfoldable pub version_of : List ℕ → Result ℕ Reason
+version_of text = version_in (header_of text)
 
--- client 0 submits one operation, on a key of shard 0
-abbrev pub put_event : List ℕ → ℕ → Event
-put_event name value = event.Submit (record { 0 = 0 }) (op.Put (record { shard = record { 0 = 0 }; name = name }) value ∷ [])
+-- the events of the world that a line stands for
+abbrev pub thin_events : Line → Result (List Event) Reason
+thin_events line.Skip = Ok []
+thin_events (line.One (event.Submit client ops)) = Ok (thin.Submit client ops ∷ [])
+thin_events (line.One other) = Err reason.Word
+thin_events (line.Flow times) = Ok (replicate times thin.Flow)
+thin_events (line.Lose times) = Err reason.Word
 
-abbrev pub events_of : ThinLine → List Event
-events_of Skip = []
-events_of (Put name value) = put_event name value ∷ []
-events_of (Flow times) = replicate times event.Flow
+abbrev pub is_known : List ℕ → Bool
+is_known text = is_skipped text || bytes_eq (first_word text) (codes "submit") || bytes_eq (first_word text) (codes "flow")
 
--- the first line that is refused, lines counted from 1, and why
-pub record BadLine : Type 0 where
-  pub line : ℕ
-  pub reason : Reason
+-- what a line says
+unfoldable pub known_line : ℕ → List ℕ → Result Line Reason
+known_line version text = if is_known text then line_of version text else Err reason.Word
 
-abbrev pub with_events : List Event → Result (List Event) BadLine → Result (List Event) BadLine
-with_events events (Ok more) = Ok (events ++ more)
-with_events events (Err bad) = Err bad
+-- want of memory is no reason: where a line is refused, it isn't for that
+abbrev pub refusal_reason : Refusal → Reason
+refusal_reason refusal.NoSuchClient = reason.NoSuchClient
+refusal_reason refusal.NoSuchShard = reason.NoSuchShard
+refusal_reason refusal.NoMemory = reason.Word
 
--- the events of the lines behind the header, of which the first has this number
-unfoldable pub events_from : ℕ → List (List ℕ) → Result (List Event) BadLine
-events_from number [] = Ok []
-events_from number (line ∷ lines) = elim (line_of line) [
-  | Some said ↦ with_events (events_of said) (events_from (number + 1) lines)
-  | None ↦ Err (record { line = number; reason = Word })
+abbrev pub told : Result WorldState Refusal → Result WorldState Reason
+told (Ok next) = Ok next
+told (Err why) = Err (refusal_reason why)
+
+-- the world after what a line says
+abbrev pub after_said : WorldState → Line → Result WorldState Reason
+after_said w said = thin_events said >>= λ events. told (run_from w events)
+
+-- the world after a line; or why the grammar, else the world, refuses it
+unfoldable pub after_line : ℕ → WorldState → List ℕ → Result WorldState Reason
+after_line version w text = known_line version text >>= after_said w
+
+-- the world after lines, of which the first has this number
+unfoldable pub after_lines : ℕ → ℕ → WorldState → List (List ℕ) → Result WorldState BadLine
+after_lines version number w [] = Ok w
+after_lines version number w (text ∷ texts) = elim (after_line version w text) [
+  | Ok next ↦ after_lines version (number + 1) next texts
+  | Err why ↦ Err (record { line = number; reason = why })
 ]
 
-abbrev pub no_header : Result (List Event) BadLine
-no_header = Err (record { line = 1; reason = Header })
-
 -- the first line is the header, whatever it is
-abbrev pub events_in : List (List ℕ) → Result (List Event) BadLine
-events_in [] = no_header
-events_in (first ∷ lines) = if bytes_eq first (codes "eris 1 1 0 1") then events_from 2 lines else no_header
+abbrev pub after_text : List (List ℕ) → Result WorldState BadLine
+after_text [] = Err (record { line = 1; reason = reason.Header })
+after_text (first ∷ texts) = elim (version_of first) [
+  | Ok version ↦ after_lines version 2 start texts
+  | Err why ↦ Err (record { line = 1; reason = why })
+]
 
-unfoldable pub script : List ℕ → Result (List Event) BadLine
-script bytes = events_in (lines bytes)
+-- what comes of a script
+unfoldable pub outcome : List ℕ → Result WorldState BadLine
+outcome bytes = after_text (lines bytes)
+
+-- THE SCRIPT OF EVENTS
+
+abbrev pub as_asked : Event → Asked
+as_asked (thin.Submit client ops) = event.Submit client ops
+as_asked thin.Flow = event.Flow
+
+-- one shard, one replica and one client, and these events
+abbrev pub thin_script : List Event → Script
+thin_script events = record { config = record { shards = 1; f = 0; clients = 1 }; events = map as_asked events }

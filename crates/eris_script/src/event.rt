@@ -1,4 +1,4 @@
-use eris_base::{ClientId, Dup, Epoch, NoMemory, Node, ReplicaId, Row, ShardId, TxnId};
+use eris_base::{ClientId, Dup, Epoch, NoMemory, Node, ReplicaId, Row, Same, ShardId, TxnId};
 use eris_txn::{Op, Plan};
 use std::alloc::Global;
 
@@ -83,6 +83,88 @@ impl Dup for Event {
                 node: *node,
                 bytes: bytes.copy(alloc)?,
             }),
+        }
+    }
+}
+
+impl Same for Event {
+    fn same(&self, other: &Event) -> bool {
+        match (self, other) {
+            (
+                Event::Submit { client, ops },
+                Event::Submit {
+                    client: another,
+                    ops: others,
+                },
+            ) => *client == *another && ops.same(others),
+            (
+                Event::General { client, plan },
+                Event::General {
+                    client: another,
+                    plan: rest,
+                },
+            ) => *client == *another && plan.same(rest),
+            (
+                Event::Retry { client, number },
+                Event::Retry {
+                    client: another,
+                    number: count,
+                },
+            ) => *client == *another && *number == *count,
+            (
+                Event::Abort { asker, id },
+                Event::Abort {
+                    asker: another,
+                    id: other,
+                },
+            ) => *asker == *another && *id == *other,
+            (
+                Event::Deliver { packet, epoch },
+                Event::Deliver {
+                    packet: another,
+                    epoch: named,
+                },
+            ) => *packet == *another && epoch.same(named),
+            (Event::Flow, Event::Flow) => true,
+            (Event::Lose, Event::Lose) => true,
+            (
+                Event::Probe { shard, replica },
+                Event::Probe {
+                    shard: other,
+                    replica: another,
+                },
+            ) => *shard == *other && *replica == *another,
+            (
+                Event::Suspect { shard, replica },
+                Event::Suspect {
+                    shard: other,
+                    replica: another,
+                },
+            ) => *shard == *other && *replica == *another,
+            (
+                Event::Sync { shard, replica },
+                Event::Sync {
+                    shard: other,
+                    replica: another,
+                },
+            ) => *shard == *other && *replica == *another,
+            (
+                Event::Crash { shard, replica },
+                Event::Crash {
+                    shard: other,
+                    replica: another,
+                },
+            ) => *shard == *other && *replica == *another,
+            (Event::Nudge, Event::Nudge) => true,
+            (Event::Replace, Event::Replace) => true,
+            (
+                Event::Noise { node, bytes },
+                Event::Noise {
+                    node: other,
+                    bytes: others,
+                },
+            ) => *node == *other && bytes.same(others),
+            _ => false,
         }
     }
 }

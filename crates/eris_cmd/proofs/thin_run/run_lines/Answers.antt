@@ -5,7 +5,7 @@ use Rattle.eris_cmd.proofs.LineRuns.{none_run, one_more_run, all_run, bad_stop}
 use Rattle.eris_cmd.proofs.thin_run.run_lines.Goals as goal
 
 pub loop-rest-init : goal.loop-rest-init
-loop-rest-init c = none_run _ _ c.requires.unspent
+loop-rest-init c = none_run _ _ _ c.requires.unspent
 
 pub returns-in_err-run_line-clause-bad : goal.returns-in_err-run_line-clause-bad
 returns-in_err-run_line-clause-bad c =
