@@ -1,14 +1,12 @@
-ghost use Rattle.std.specs.Prelude.{◌≡◌, ◌≤◌, IfOk, OnOk, OnErr, IsTrue, not, length, ◌∷◌, [], take, map, filter, ◌++◌};
+ghost use Rattle.std.specs.Prelude.{◌≡◌, IfOk, OnOk, not, ◌∷◌, [], map, ◌++◌};
 ghost use Rattle.std.specs.List.{list_any};
 ghost use Rattle.std.specs.Ordering.{is_lt};
-ghost use Rattle.eris_base.specs.Places.{number_in};
 ghost use Rattle.eris_log.specs.Places.{contains_place, any_among};
-ghost use Rattle.eris_log.specs.Sorted.{placed};
 ghost use Rattle.eris_epoch.specs.Closing.{held_of, held_in, undropped, each_once, by_places, shard_log, names, turn_on};
 ghost use Rattle.eris_epoch.specs.ClosingFacts.{IsShardLog};
 ghost use Rattle.eris_epoch.specs.ClosingSteps.{with_packet, with_packets, with_turn, AreByPlaces, IsStart, IsEnd};
 ghost use Rattle.eris_epoch.specs.SamePackets.{same_packet, is_listed};
-ghost use Rattle.eris_epoch.specs.Sorting.{sorted, InOrder, places_cmp, turn_cmp};
+ghost use Rattle.eris_epoch.specs.Sorting.{InOrder, places_cmp, turn_cmp};
 
 use crate::noted::NotedPart;
 use eris_base::{Dup, Epoch, NoMemory, Place, Row, Same, ShardId, Stamp};

@@ -1,4 +1,4 @@
-ghost use Rattle.std.specs.Prelude.{◌≡◌, ◌<◌, ◌≤◌, ◌==◌, OnOk, OnErr, IfOk, IsTrue, length, filter};
+ghost use Rattle.std.specs.Prelude.{◌≡◌, ◌<◌, ◌==◌, OnOk, OnErr, IfOk, IsTrue, length, filter};
 ghost use Rattle.eris_epoch.specs.EpochTallies.{sender_of, is_heard, are_heard};
 ghost use Rattle.eris_epoch.specs.TallyFacts.{senders_ascend};
 

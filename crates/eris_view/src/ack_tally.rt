@@ -1,4 +1,4 @@
-ghost use Rattle.std.specs.Prelude.{◌≡◌, ◌*◌, ◌+◌, ◌<◌, ◌≤◌, List, length, set, max, min, IfSome, Some};
+ghost use Rattle.std.specs.Prelude.{◌≡◌, ◌*◌, ◌+◌, ◌<◌, ◌≤◌, length};
 ghost use Rattle.eris_view.specs.AckCells.{acks_from, cell_has, offered, length_after, IsReached};
 ghost use Rattle.eris_view.specs.AckTallies.{how_many_have};
 
