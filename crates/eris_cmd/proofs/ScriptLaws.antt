@@ -163,9 +163,9 @@ text_taken (first ∷ texts) w took = of_version (version_of first) refl took
         let rest = lines_taken version 2 start w texts found in (
           rest.events,
           ap (λ read. elim read as (λ _. Result Script BadLine) [ Ok header ↦ with_config header.config (events_from header.version 2 texts) | Err why ↦ Err (record { line = 1; reason = why }) ]) head.read
-          ∙ ap (λ (config : ConfigValue). with_config config (events_from head.header.version 2 texts)) head.config
-          ∙ ap (λ (n : ℕ). with_config (record { shards = 1; f = 0; clients = 1 }) (events_from n 2 texts)) head.named
-          ∙ ap (with_config (record { shards = 1; f = 0; clients = 1 })) rest.says,
+              ∙ ap (λ (config : ConfigValue). with_config config (events_from head.header.version 2 texts)) head.config
+              ∙ ap (λ (n : ℕ). with_config (record { shards = 1; f = 0; clients = 1 }) (events_from n 2 texts)) head.named
+              ∙ ap (with_config (record { shards = 1; f = 0; clients = 1 })) rest.says,
           rest.ran,
         )
     of_version (Err why) is found = absurd cc

@@ -14,7 +14,14 @@ const ONE_PUT: &str = "eris 1 1 0 1\nsubmit 0 put 0/a 7\nflow 3\n";
 const ONE_PUT_REPORT: &str =
     "eris report 1\nconfig 1 0 1\nsubmit 0.1 put 0/a 7\nanswer 0.1 ok\norder 0.1 done 0 0:1\nreplica 0 0 normal epoch 0 view 0 held 1 length 1 settled 0\ncoordinator epoch 0 target 0 found 0 dropped 0\nsent 3\nend\n";
 
-// The same before its answer is delivered.
+// Each operation once, with answers by hand, in a script of version 2.
+const FIVE_OPERATIONS: &str =
+    "eris 2 1 0 1\nsubmit 0 put 0/n 41 ; add 0/n 1\nsubmit 0 cas 0/n 42 7 ; get 0/n ; del 0/n ; get 0/n\nflow 6\n";
+
+const FIVE_OPERATIONS_REPORT: &str =
+    "eris report 1\nconfig 1 0 1\nsubmit 0.1 put 0/n 41 ; add 0/n 1\nsubmit 0.2 cas 0/n 42 7 ; get 0/n ; del 0/n ; get 0/n\nanswer 0.1 ok 42\nanswer 0.2 yes 7 yes -\norder 0.1 done 0 0:1\norder 0.2 done 0 0:2\nreplica 0 0 normal epoch 0 view 0 held 2 length 2 settled 0\ncoordinator epoch 0 target 0 found 0 dropped 0\nsent 6\nend\n";
+
+// The one put before its answer is delivered.
 const UNANSWERED_REPORT: &str =
     "eris report 1\nconfig 1 0 1\nsubmit 0.1 put 0/a 7\norder 0.1 done 0 0:1\nreplica 0 0 normal epoch 0 view 0 held 1 length 1 settled 0\ncoordinator epoch 0 target 0 found 0 dropped 0\nsent 3\nend\n";
 
@@ -66,34 +73,80 @@ fn scripts_get_their_status_and_text(rt: HostRuntime) -> Result<(), Fail> {
         ),
         (
             "eris 1 1 0 1\n#\nflow 3 \n",
-            bad(3, Reason::Word),
-            "bad script: line 3 Word\n",
+            bad(3, Reason::End),
+            "bad script: line 3 End\n",
         ),
         (
             "eris 1 1 0 1\nflow 03\n",
-            bad(2, Reason::Word),
-            "bad script: line 2 Word\n",
+            bad(2, Reason::Number),
+            "bad script: line 2 Number\n",
         ),
         (
-            "eris 1 1 0 1\nflow 4294967296",
-            bad(2, Reason::Word),
-            "bad script: line 2 Word\n",
+            "eris 1 1 0 1\nflow 4294967296\n",
+            bad(2, Reason::Number),
+            "bad script: line 2 Number\n",
         ),
         (
             "eris 1 1 0 1\nsubmit 0 put 0/abcdefghijklmnopq 7\n",
-            bad(2, Reason::Word),
-            "bad script: line 2 Word\n",
+            bad(2, Reason::Key),
+            "bad script: line 2 Key\n",
         ),
         (
             "eris 1 1 0 1\nsubmit 0 put 0/a  7\n",
-            bad(2, Reason::Word),
-            "bad script: line 2 Word\n",
+            bad(2, Reason::Number),
+            "bad script: line 2 Number\n",
         ),
         (
             "eris 1 1 0 1\nflow 1\n \neris\n",
             bad(3, Reason::Word),
             "bad script: line 3 Word\n",
         ),
+        (
+            "eris 1 1 0 1\nretry 0\n",
+            bad(2, Reason::Word),
+            "bad script: line 2 Word\n",
+        ),
+        (
+            "eris 1 1 0 1\nlose 1\n",
+            bad(2, Reason::Word),
+            "bad script: line 2 Word\n",
+        ),
+        (
+            "eris 1 1 0 1\nsubmit 1 get 0/a 0/b\n",
+            bad(2, Reason::Word),
+            "bad script: line 2 Word\n",
+        ),
+        (
+            "eris 1 1 0 1\nsubmit 1 get 1/a\n",
+            bad(2, Reason::NoSuchClient),
+            "bad script: line 2 NoSuchClient\n",
+        ),
+        (
+            "eris 1 1 0 1\nsubmit 0 get 0/a ; get 1/a\n",
+            bad(2, Reason::NoSuchShard),
+            "bad script: line 2 NoSuchShard\n",
+        ),
+        (
+            "eris 1 1 0 2\n",
+            bad(1, Reason::Header),
+            "bad script: line 1 Header\n",
+        ),
+        (
+            "eris 2 1 1 1\n",
+            bad(1, Reason::Header),
+            "bad script: line 1 Header\n",
+        ),
+        (
+            "eris 2 2 0 1\n",
+            bad(1, Reason::Header),
+            "bad script: line 1 Header\n",
+        ),
+        (
+            "eris 2 1 0 1\nsubmit 0 get 16/a\n",
+            bad(2, Reason::NoSuchShard),
+            "bad script: line 2 NoSuchShard\n",
+        ),
+        (FIVE_OPERATIONS, Status::Done, FIVE_OPERATIONS_REPORT),
     ] {
         let mut source = MemSource::new(row_of(alloc, script.as_bytes())?, 8, Row::new(alloc));
         let mut sink = MemSink::new(alloc, 5, Row::new(alloc));

@@ -7,7 +7,9 @@ ghost use Rattle.eris_cmd.specs.ThinScript.{after_lines, is_known, is_one, known
 ghost use Rattle.eris_cmd.specs.ThinRuns.{Takes, TakesSaid, RefusesSaid, TakesLine, RefusesAt, TakesLines, IsAfterScript, IfBad};
 
 use eris_base::{ClientId, Config, NoMemory, Row};
-use eris_script::{Event as Asked, Line, LineFault, Reason, first_line, first_word, parse_header, parse_line};
+use eris_script::{
+    Event as Asked, Line, LineFault, Reason, first_line, first_word, parse_header, parse_line,
+};
 use eris_txn::Op;
 use eris_world::{Event, Refusal, World};
 use std::alloc::Global;
@@ -32,12 +34,7 @@ impl From<NoMemory> for Stop {
 }
 
 #[tactic(auto, using(crate::proofs::Runs::submissions))]
-fn submit(
-    world: &mut World,
-    client: ClientId,
-    ops: Row<Op>,
-    number: u32,
-) -> Result<(), Stop>
+fn submit(world: &mut World, client: ClientId, ops: Row<Op>, number: u32) -> Result<(), Stop>
     requires unspent { world.old.spent ≡ false }
     requires room { 3 * (world.old.state.client.submitted + 1) < 2 ^ 32 }
     ensures ok { OnOk result (TakesSaid world.old world.new (Line.One (Asked.Submit client ops))) }
