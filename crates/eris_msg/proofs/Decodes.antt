@@ -15,6 +15,10 @@ pub is_found : (bytes : List ℕ) (r : Result Message DecodeFault) → IsBytes b
 is_found bytes (Ok x) fine e = let t = whole_takes message is_message bytes x fine e in record { fits = t.1; spelled = t.0 }
 is_found bytes (Err d) fine e = tt
 
+pub found_fits : (bytes : List ℕ) (r : Result Message DecodeFault) → IfOk r (λ x. IsSpelling x bytes) → IfOk r (λ x. message_fits x ≡ true)
+found_fits bytes (Ok x) h = h.fits
+found_fits bytes (Err d) h = tt
+
 pub is_only : (x : Message) (bytes : List ℕ) (r : Result Message DecodeFault) → IsSpelling x bytes → Answers r (length bytes) (whole message bytes) → Answers r (length bytes) (Ok x)
 is_only x bytes r h e =
     let all : whole message bytes ≡ Ok x = ap (whole message) h.spelled ∙ whole_again message is_message x h.fits in

@@ -108,9 +108,9 @@ mark_items e before (place ∷ list) h o k =
     let same : place.epoch.0 ≡ e.0 = eqb-true _ _ (left_of (place.epoch.0 == e.0) (are_of_epoch e list) o) in
     let here : p.place_at e (p.pair_of place) ≡ place = ap (λ (n : ℕ). at_epoch_number place n) (sym same) in
     let state : option_map (p.place_at e) (last_of (before ++ p.pair_of place ∷ [])) ≡ some_place place =
-        ap (λ (z : Option (ShardId × ℕ)). option_map (p.place_at e) z) (last_added before (p.pair_of place)) ∙ ap some_place here in
+    ap (λ (z : Option (ShardId × ℕ)). option_map (p.place_at e) z) (last_added before (p.pair_of place)) ∙ ap some_place here in
     let next : ascends_from (λ place. place) place_cmp (option_map (p.place_at e) (last_of (before ++ p.pair_of place ∷ []))) list ≡ true =
-        subst (λ (z : Option Place). ascends_from (λ place. place) place_cmp z list ≡ true) (sym state) more in
+    subst (λ (z : Option Place). ascends_from (λ place. place) place_cmp z list ≡ true) (sym state) more in
     both _ _ (both _ _ (both _ _ k.0.0 k.0.1) (after_above e (last_of before) place same above))
     (mark_items e (before ++ p.pair_of place ∷ []) list next (right_of (place.epoch.0 == e.0) (are_of_epoch e list) o) k.1)
 
@@ -136,7 +136,7 @@ held_items before (x ∷ list) h k =
     let above = left_of (is_above nat_cmp (option_map (λ pair. pair.0) (last_of before)) x.0) (ascends_from (λ pair. pair.0) nat_cmp (Some x.0) list) h in
     let more = right_of (is_above nat_cmp (option_map (λ pair. pair.0) (last_of before)) x.0) (ascends_from (λ pair. pair.0) nat_cmp (Some x.0) list) h in
     let next : ascends_from (λ pair. pair.0) nat_cmp (option_map (λ pair. pair.0) (last_of (before ++ x ∷ []))) list ≡ true =
-        subst (λ (z : Option (ℕ × Packet)). ascends_from (λ pair. pair.0) nat_cmp (option_map (λ pair. pair.0) z) list ≡ true) (sym (last_added before x)) more in
+    subst (λ (z : Option (ℕ × Packet)). ascends_from (λ pair. pair.0) nat_cmp (option_map (λ pair. pair.0) z) list ≡ true) (sym (last_added before x)) more in
     both _ _ (both _ _ (both _ _ k.0.0 (above_held (last_of before) x.0 above)) k.0.1) (held_items (before ++ x ∷ []) list next k.1)
 
 held_fits : (list : List (ℕ × Packet)) → AreHeld list → AllByRecursion HeldInRange list → length list < 2 ^ 32 → p.held.fits list ≡ true

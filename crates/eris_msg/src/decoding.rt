@@ -1,9 +1,9 @@
-ghost use Rattle.std.specs.Prelude.{◌≡◌, length, Ok, IfOk};
+ghost use Rattle.std.specs.Prelude.{◌≡◌, length, Ok, IfOk, true};
 ghost use Rattle.eris_msg.specs.declared.message.Message.{Message};
 ghost use Rattle.eris_msg.specs.Answers.{Answers, Gives};
 ghost use Rattle.eris_msg.specs.Codecs.{whole};
 ghost use Rattle.eris_msg.specs.Messages.{message};
-ghost use Rattle.eris_msg.specs.Spellings.{spelling, message_fits, IsSpelling};
+ghost use Rattle.eris_msg.specs.Spellings.{message_fits, IsSpelling};
 
 use crate::fault::{DecodeFault, DecodeReason, Stop};
 use crate::input::{Input, bad};
@@ -19,6 +19,7 @@ use std::alloc::Global;
 /// field, from the left, that isn't there whole or breaks its rule, and where.
 pub fn decode(alloc: Global, bytes: &[u8]) -> Result<Message, DecodeFault>
     ensures found { IfOk result (λ x. IsSpelling x bytes.now) }
+    ensures fits { IfOk result (λ x. message_fits x ≡ true) }
     ensures only { (x : Message) → IsSpelling x bytes.now → Answers result (length bytes.now) (Ok x) }
     ensures exact { Answers result (length bytes.now) (whole message bytes.now) }
 {

@@ -1,5 +1,5 @@
 use Rattle.std.proofs.Common.{arith}
-use Rattle.eris_msg.proofs.Decodes.{is_found, is_only}
+use Rattle.eris_msg.proofs.Decodes.{is_found, is_only, found_fits}
 use Rattle.eris_msg.proofs.decoding.decode.Goals as goal
 
 pub returns-clause-found : goal.returns-clause-found
@@ -7,3 +7,6 @@ returns-clause-found c = is_found c.args.bytes.now c.placed.result (λ i. omega 
 
 pub returns-clause-only : goal.returns-clause-only
 returns-clause-only c = λ x h. is_only x c.args.bytes.now c.placed.result h c.placed.ensures
+
+pub returns-clause-fits : goal.returns-clause-fits
+returns-clause-fits c = found_fits c.args.bytes.now c.placed.result (is_found c.args.bytes.now c.placed.result (λ i. omega (arith, c.type_inv.bytes i)) c.placed.ensures)
