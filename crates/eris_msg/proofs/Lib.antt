@@ -1,10 +1,13 @@
 mod BodyLaws
 mod Chain
+mod Decodes
 mod FieldLaws
 mod LastItems
 mod Laws
 mod MessageLaws
 mod NameBytes
 mod PartLaws
+mod PartOrder
+mod Sizes
 mod StampOrder
 mod TagLaws

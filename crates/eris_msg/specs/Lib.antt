@@ -3,3 +3,4 @@ pub mod Codecs
 pub mod Fields
 pub mod Messages
 pub mod Parts
+pub mod Spellings

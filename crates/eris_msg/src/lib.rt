@@ -2,13 +2,22 @@
 //! into a stream of bytes and taken out of it.
 #![tactic(auto)]
 
+mod decoding;
+mod encoding;
 mod fault;
 mod input;
 mod message;
 mod outgoing;
 mod read_fields;
 mod read_lists;
+mod read_messages;
+mod read_parts;
+mod write_fields;
+mod write_lists;
+mod write_messages;
 
+pub use decoding::decode;
+pub use encoding::{encode, spellings_differ};
 pub use fault::{DecodeFault, DecodeReason};
 pub use message::Message;
 pub use outgoing::Outgoing;
