@@ -35,7 +35,7 @@ is_noted_in f place shard view other =
     && (other.shard.0 == shard.0 && (nat_lt other.replica.0 (2 * f + 1) && other.view.0 == view.0))
 
 -- the replicas of the shard that noted the place in the view
-unfoldable pub noted_replicas : ℕ → List DropNote → Place → ShardId → View → List ReplicaId
+abbrev pub noted_replicas : ℕ → List DropNote → Place → ShardId → View → List ReplicaId
 noted_replicas f notes place shard view =
     map (λ other. other.replica) (filter (λ other. is_noted_in f place shard view other) notes)
 
@@ -45,9 +45,10 @@ is_drop_quorum f notes place shard view =
     has_replica (noted_replicas f notes place shard view) (learner_of view f)
     && are_quorum (noted_replicas f notes place shard view) f
 
--- there is a view in which they did. It is then the view of one of the notes.
+-- there is a view in which they did. It is then the view of one of their notes.
 unfoldable pub has_drop_quorum : ℕ → List DropNote → Place → ShardId → Bool
-has_drop_quorum f notes place shard = list_any (λ other. is_drop_quorum f notes place shard other.view) notes
+has_drop_quorum f notes place shard =
+    list_any (λ other. is_noted_in f place shard other.view other && is_drop_quorum f notes place shard other.view) notes
 
 -- there is one for every shard
 unfoldable pub decided : Config → List DropNote → Place → Bool

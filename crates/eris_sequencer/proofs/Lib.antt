@@ -1,1 +1,4 @@
+pub mod AskLaws
 pub mod Examples
+pub mod SequencerLaws
+pub mod StampLaws

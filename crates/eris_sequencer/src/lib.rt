@@ -2,7 +2,17 @@
 //! a packet its next number in one step.
 #![tactic(auto)]
 
+mod asks;
+mod counters;
+mod sends;
 mod sequencer;
+mod sequencers;
+mod stamp_fault;
 mod stamping;
 
 pub use sequencer::Sequencer;
+pub use sequencers::Sequencers;
+pub use stamp_fault::StampFault;
+
+#[cfg(test)]
+mod tests;
