@@ -46,8 +46,8 @@ abbrev pub names : ShardId → Packet → Bool
 names shard packet = is_some (number_in packet.stamp.places shard)
 
 -- the packet's epoch and its number on the shard
-abbrev pub turn_on : ShardId → Packet → ℕ × ℕ
-turn_on shard packet = (packet.stamp.epoch.0, unwrap_or (number_in packet.stamp.places shard) 0)
+abbrev pub turn_on : ShardId → Packet → Epoch × ℕ
+turn_on shard packet = (packet.stamp.epoch, unwrap_or (number_in packet.stamp.places shard) 0)
 
 -- the packets that name the shard, by epoch and number; where these are equal they keep their order
 unfoldable pub shard_log : List Packet → ShardId → List Packet

@@ -43,14 +43,14 @@ unfoldable pub replicas_of : List NotedPart → ℕ → List ReplicaId
 replicas_of noted shard = map (λ one. one.replica) (filter (λ one. one.part.shard.0 == shard) noted)
 
 -- at least f+1 different replicas of the shard are noted
-unfoldable pub is_heard : EpochTallyValue → ℕ → Bool
-is_heard tally shard = are_quorum (replicas_of tally.noted shard) tally.config.f
+unfoldable pub is_heard : List NotedPart → ℕ → ℕ → Bool
+is_heard noted f shard = are_quorum (replicas_of noted shard) f
 
 -- each shard below the number is heard
-unfoldable pub are_heard : EpochTallyValue → ℕ → Bool
-are_heard tally zero = true
-are_heard tally (suc shard) = are_heard tally shard && is_heard tally shard
+unfoldable pub are_heard : List NotedPart → ℕ → ℕ → Bool
+are_heard noted f zero = true
+are_heard noted f (suc shard) = are_heard noted f shard && is_heard noted f shard
 
 -- every shard is heard
 unfoldable pub is_ready : EpochTallyValue → Bool
-is_ready tally = are_heard tally tally.config.shards
+is_ready tally = are_heard tally.noted tally.config.f tally.config.shards

@@ -2,6 +2,10 @@
 //! that survive, and each shard's log of them.
 #![tactic(auto)]
 
+mod closing;
+mod epoch_tally;
 mod noted;
 
+pub use closing::shard_log;
+pub use epoch_tally::EpochTally;
 pub use noted::NotedPart;

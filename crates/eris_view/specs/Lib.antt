@@ -1,2 +1,5 @@
+pub mod AckCells
 pub mod AckTallies
+pub mod Holders
 pub mod ViewTallies
+pub mod ViewTallyFacts
