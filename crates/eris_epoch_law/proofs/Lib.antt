@@ -12,3 +12,4 @@ pub mod Turns
 pub mod Views
 pub mod Drops
 pub mod KeyLemma
+pub mod Settles
