@@ -13,3 +13,4 @@ pub mod Views
 pub mod Drops
 pub mod KeyLemma
 pub mod Settles
+pub mod Counted

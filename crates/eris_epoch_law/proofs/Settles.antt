@@ -320,3 +320,7 @@ module _ (system : EpochSystem) (events : List EpochEvent) where
         by_found : (found : Option Packet) → packet_at (then j s r).part.held n ≡ found → is_some found ≡ true → packet_at (then j s r).part.held n ≡ Some t
         by_found None e g = absurd (cc)
         by_found (Some u) e g = e ∙ ap Some (is_packet system events k s n t stamped number j r u le e)
+
+    -- both ways at once
+    pub settled_same : is_dropped (then j s r).part n ≡ any_among (at k).coordinator.dropped t.stamp
+    settled_same = elim (cases_Bool (is_dropped (then j s r).part n)) [ inl lost ↦ lost ∙ sym (settled_dropped lost) | inr kept ↦ kept ∙ sym (settled_kept kept) ]

@@ -292,3 +292,6 @@ module _ (system : EpochSystem) (events : List EpochEvent) where
   -- VIEW CHANGES ARE SOUND at every moment
   pub sound : (k : ℕ) (s : ShardId) (r : ReplicaId) → IsSound k s r
   sound k s r = sound_to k k s r (omega arith)
+
+  pub above_zero : (k : ℕ) (s : ShardId) (r : ReplicaId) → is_normal (then k s r).status ≡ true → 0 < (then k s r).view.0 → IsBacked system events k s (then k s r).view (then k s r).part
+  above_zero k s r normal above = elim ((sound k s r).normal normal) [ inl zero_view ↦ absurd (omega arith) | inr backed ↦ backed ]

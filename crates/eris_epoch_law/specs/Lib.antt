@@ -5,3 +5,4 @@ pub mod Causes
 pub mod Stamped
 pub mod Fine
 pub mod Quorums
+pub mod Spoken
