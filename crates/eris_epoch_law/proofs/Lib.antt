@@ -14,3 +14,5 @@ pub mod Drops
 pub mod KeyLemma
 pub mod Settles
 pub mod Counted
+pub mod Opened
+pub mod Examples

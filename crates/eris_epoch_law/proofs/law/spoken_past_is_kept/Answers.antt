@@ -1,5 +1,5 @@
 use Rattle.eris_epoch_law.proofs.KeyLemma.{key}
 use Rattle.eris_epoch_law.proofs.law.spoken_past_is_kept.Goals as goal
 
-pub returns-clause-key : goal.returns-clause-key
-returns-clause-key c = key
+pub returns : goal.returns
+returns c = record { key = key }
