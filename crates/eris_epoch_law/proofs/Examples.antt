@@ -49,3 +49,38 @@ dropping = asks 1 ∷ asks 2 ∷ Delivers 1 ∷ Delivers 2 ∷ Delivers 3 ∷ De
 dropped_and_settled : told 0 dropping 0 ≡ 1 ∷ 0 ∷ 2 ∷ 2 ∷ []
 unfolding all_definitions
 dropped_and_settled = refl
+
+-- With f = 1, packet 1 is lost and packet 2 comes to replica 1 alone. Replicas 0 and 1 drop place 1 for a time, and the
+-- coordinator drops it for good, of which replica 1 hears. Then replicas 1 and 2 go to view 1, whose learner is 1: it
+-- begins the view with what both know, and replica 2 takes part from there.
+abbrev changing : List EpochEvent
+changing =
+    asks 1 ∷ asks 2 ∷ Delivers 4 ∷ Delivers 6 ∷ Delivers 8 ∷ Delivers 7 ∷ Delivers 10 ∷ Delivers 11 ∷ Delivers 13
+    ∷ Suspects (shard 0) (replica 1) ∷ Suspects (shard 0) (replica 2) ∷ Delivers 16 ∷ Delivers 18
+    ∷ []
+
+learner_begins : told 1 changing 1 ≡ 1 ∷ 1 ∷ 0 ∷ 2 ∷ []
+unfolding all_definitions
+learner_begins = refl
+
+-- replica 2 never got packet 2, nor heard that place 1 is dropped, but for the view change
+other_joins : told 1 changing 2 ≡ 1 ∷ 1 ∷ 0 ∷ 2 ∷ []
+unfolding all_definitions
+other_joins = refl
+
+-- replica 0 knows nothing of the view
+first_stays : told 1 changing 0 ≡ 1 ∷ 0 ∷ 0 ∷ 0 ∷ []
+unfolding all_definitions
+first_stays = refl
+
+-- In view 1 the learner asks how far the others are, and settles both numbers; replica 2 learns of it.
+abbrev settling : List EpochEvent
+settling = changing ++ Syncs (shard 0) (replica 1) ∷ Delivers 22 ∷ Delivers 23 ∷ Delivers 25 ∷ []
+
+learner_settles : told 1 settling 1 ≡ 1 ∷ 1 ∷ 2 ∷ 2 ∷ []
+unfolding all_definitions
+learner_settles = refl
+
+other_learns : told 1 settling 2 ≡ 1 ∷ 1 ∷ 2 ∷ 2 ∷ []
+unfolding all_definitions
+other_learns = refl
