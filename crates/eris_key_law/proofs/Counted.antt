@@ -1,5 +1,5 @@
 -- What a client counts: from the Vouches and the Reply that were sent, each replica of a quorum held the packet with
--- no gap before it, so the packet is kept; and each message of the epoch is of the epoch.
+-- no gap before it, so the packet and the log behind the answer are kept.
 use Rattle.std.proofs.Common.{◌≡◌, ◌⊎◌, inl, inr, ℕ, zero, suc, ◌+◌, ◌*◌, ◌≤◌, ◌<◌, List, [], ◌∷◌, Bool, true, false, ◌==◌, ◌&&◌, Option, Some, None, refl, sym, ap, ◌∙◌, subst, arith}
 use Rattle.std.specs.List.{list_all}
 use Rattle.std.specs.Prelude.{⊤}
@@ -29,61 +29,16 @@ use Rattle.eris_epoch_law.specs.Causes.{Cause, ByReplica, ByCoordinator, BySeque
 use Rattle.eris_epoch_law.specs.EpochWorlds.{EpochSystem, EpochWorld, EpochEvent, member_of, moment}
 use Rattle.eris_epoch_law.specs.Fine.{KnownLists, known_in, IsFineMessage}
 use Rattle.eris_epoch_law.specs.Members.{In}
-use Rattle.eris_epoch_law.specs.Quorums.{IsQuorum, Reached, SpokePast}
+use Rattle.eris_key_law.specs.Quorums.{IsQuorum, Reached, SpokePast}
 use Rattle.eris_epoch_law.specs.Reading.{replica_then}
-use Rattle.eris_epoch_law.specs.Spoken.{SpokeThen, RepliedThen, GaveLateThen, IsCounted}
+use Rattle.eris_key_law.specs.Spoken.{SpokeThen, RepliedThen, GaveLateThen, IsCounted}
 use Rattle.eris_epoch_law.specs.Stamped.{HasNumber, IsStampedIn}
 use Rattle.eris_epoch_law.proofs.FineParts.{epoch_equal, held_fine}
 use Rattle.eris_epoch_law.proofs.FineWorlds.{all_fine}
 use Rattle.eris_epoch_law.proofs.Grow.{NoGap-less}
-use Rattle.eris_epoch_law.proofs.KeyLemma.{no_gap, fine_part, own_shard, dropped_by, key}
+use Rattle.eris_key_law.proofs.KeyLemma.{no_gap, fine_part, own_shard, dropped_by, key}
 use Rattle.eris_epoch_law.proofs.Members.{Each-at}
 use Rattle.eris_epoch_law.proofs.Moments.{later, cause}
-
--- ---- each message of the epoch is of the epoch
-marks_of : (epoch : Epoch) (places : List Place) → are_of_epoch epoch places ≡ true → Each (λ place. place.epoch ≡ epoch) places
-marks_of epoch [] h = tt
-marks_of epoch (place ∷ places) h = let parts = and_parts _ _ h in (epoch_equal place.epoch epoch (eqb-true _ _ parts.0), marks_of epoch places parts.1)
-
--- a late answer names no epoch
-abbrev pub NamesEpoch : EpochMessage → Type 0
-NamesEpoch (Stamped packet) = ⊤
-NamesEpoch (Instructs instruction) = ⊤
-NamesEpoch (Notifies notice) = ⊤
-NamesEpoch (Exchanges exchange) = ⊤
-NamesEpoch (Responds (Vouch view shard replica stamp id phase)) = ⊤
-NamesEpoch (Responds (Reply view shard replica stamp id phase answer)) = ⊤
-NamesEpoch (Responds (Late shard replica id phase answer)) = ⊥
-
-module _ (epoch : Epoch) (known : KnownLists) where
-  of_instruction : (instruction : Instruction) → IsFineMessage epoch known (Instructs instruction) → IsOf epoch (Instructs instruction)
-  of_instruction (Request place) f = f
-  of_instruction (Found packet) f = f.packet_is.of_epoch.epoch_is
-  of_instruction (Dropped place) f = f.epoch_is
-
-  of_notice : (notice : Notice) → IsFineMessage epoch known (Notifies notice) → IsOf epoch (Notifies notice)
-  of_notice (Find replica place) f = f
-  of_notice (Has packet) f = f.of_epoch.epoch_is
-  of_notice (TempDropped place shard replica view) f = f
-
-  of_exchange : (exchange : Exchange) → IsFineMessage epoch known (Exchanges exchange) → IsOf epoch (Exchanges exchange)
-  of_exchange (ViewChange replica view part) f = f.epoch_is
-  of_exchange (StartView view part) f = f.epoch_is
-  of_exchange (SyncAsk view) f = tt
-  of_exchange (Ack replica view length) f = tt
-  of_exchange (Settled view number places) f = marks_of epoch places f.marks.of_epoch
-
-  of_response : (response : Response) → IsFineMessage epoch known (Responds response) → NamesEpoch (Responds response) → IsOf epoch (Responds response)
-  of_response (Vouch view shard replica stamp id phase) f h = f
-  of_response (Reply view shard replica stamp id phase answer) f h = f
-  of_response (Late shard replica id phase answer) f h = absurd h
-
-  pub fine_is_of : (message : EpochMessage) → IsFineMessage epoch known message → NamesEpoch message → IsOf epoch message
-  fine_is_of (Stamped packet) f h = f.of_epoch.epoch_is
-  fine_is_of (Instructs instruction) f h = of_instruction instruction f
-  fine_is_of (Notifies notice) f h = of_notice notice f
-  fine_is_of (Exchanges exchange) f h = of_exchange exchange f
-  fine_is_of (Responds response) f h = of_response response f h
 
 module _ (system : EpochSystem) (events : List EpochEvent) where
   abbrev at : ℕ → EpochWorld
@@ -91,9 +46,6 @@ module _ (system : EpochSystem) (events : List EpochEvent) where
 
   abbrev then : ℕ → ShardId → ReplicaId → EpochReplica
   then k shard x = replica_then system events k shard x
-
-  pub sent_is_of : (k : ℕ) (one : EpochSend) → In one (at k).sent → NamesEpoch one.message → IsOf system.epoch one.message
-  sent_is_of k one i h = fine_is_of system.epoch (known_in (at k)) one.message (Each-at _ (at k).sent one (all_fine system events k).sent i) h
 
   -- ---- who spoke
   spoke_by : (k j : ℕ) → j < k → (shard : ShardId) (view : View) (stamp : Stamp) (id : TxnId) (phase : Phase) (replica : ReplicaId) (a : ShardId) (b : ReplicaId) → b.0 < 2 * system.config.f + 1

@@ -11,7 +11,7 @@ use Rattle.eris_log.specs.Entries.{length_of}
 use Rattle.eris_rules.specs.ReplicaStates.{EpochReplica}
 use Rattle.eris_epoch_law.specs.EpochWorlds.{EpochSystem, EpochWorld, EpochEvent, Asks, Delivers, Probes, Suspects, Syncs, Nudges, Idles, moment}
 use Rattle.eris_epoch_law.specs.Reading.{read}
-use Rattle.eris_epoch_law.proofs.Opened.{all_definitions}
+use Rattle.eris_key_law.proofs.Opened.{all_definitions}
 
 abbrev shard : ℕ → ShardId
 shard number = record { 0 = number }

@@ -10,7 +10,7 @@ use Rattle.eris_base.specs.Quorums.{has_replica, learner_of}
 use Rattle.eris_txn.specs.declared.answer.Answer.{Answer}
 use Rattle.eris_epoch_law.specs.Causes.{Spoke, Replied, GaveLate}
 use Rattle.eris_epoch_law.specs.EpochWorlds.{EpochSystem, EpochEvent, member_of}
-use Rattle.eris_epoch_law.specs.Quorums.{IsQuorum}
+use Rattle.eris_key_law.specs.Quorums.{IsQuorum}
 use Rattle.eris_epoch_law.specs.Reading.{replica_then}
 
 module _ (system : EpochSystem) (events : List EpochEvent) where

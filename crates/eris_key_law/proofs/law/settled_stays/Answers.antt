@@ -1,5 +1,5 @@
-use Rattle.eris_epoch_law.proofs.Settles.{settled_by, settled_same, settled_held}
-use Rattle.eris_epoch_law.proofs.law.settled_stays.Goals as goal
+use Rattle.eris_key_law.proofs.Settles.{settled_by, settled_same, settled_held}
+use Rattle.eris_key_law.proofs.law.settled_stays.Goals as goal
 
 pub returns-clause-settled : goal.returns-clause-settled
 returns-clause-settled c = settled_by

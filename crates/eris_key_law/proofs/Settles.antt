@@ -29,19 +29,19 @@ use Rattle.eris_rules.specs.ReplicaStates.{EpochReplica, fresh, is_normal, is_le
 use Rattle.eris_epoch_law.specs.Causes.{Cause, ByReplica, ByCoordinator, BySequencer, Acknowledged, ToldSettled}
 use Rattle.eris_epoch_law.specs.EpochWorlds.{EpochSystem, EpochWorld, EpochEvent, member_of, moment}
 use Rattle.eris_epoch_law.specs.Members.{In}
-use Rattle.eris_epoch_law.specs.Quorums.{IsQuorum, Reached, SpokePast, IsSettledBy}
+use Rattle.eris_key_law.specs.Quorums.{IsQuorum, Reached, SpokePast, IsSettledBy}
 use Rattle.eris_epoch_law.specs.Reading.{replica_then}
 use Rattle.eris_epoch_law.specs.Stamped.{HasNumber, IsStampedIn}
 use Rattle.eris_epoch_law.proofs.Frame.{replica_equal}
 use Rattle.eris_epoch_law.proofs.Grow.{NoGap-less, NoGap-within}
-use Rattle.eris_epoch_law.proofs.KeyLemma.{no_gap, grows, is_packet, own_place-packet, dropped_means, dropped_by, key}
+use Rattle.eris_key_law.proofs.KeyLemma.{no_gap, grows, is_packet, own_place-packet, dropped_means, dropped_by, key}
 use Rattle.eris_epoch_law.proofs.Leaves.{AcksFrom}
 use Rattle.eris_epoch_law.proofs.Members.{Each-at}
 use Rattle.eris_epoch_law.proofs.Moments.{cause}
 use Rattle.eris_epoch_law.proofs.Moves.{Came}
 use Rattle.eris_epoch_law.proofs.StampList.{stamps}
-use Rattle.eris_epoch_law.proofs.Turns.{AcksTurn, Raised, Learned, IsTurned}
-use Rattle.eris_epoch_law.proofs.Views.{turn_at, fresh_then, same_replica_then}
+use Rattle.eris_key_law.proofs.Turns.{AcksTurn, Raised, Learned, IsTurned}
+use Rattle.eris_key_law.proofs.Views.{turn_at, fresh_then, same_replica_then}
 
 listed_In : (replicas : List ReplicaId) (x : ReplicaId) → has_replica replicas x ≡ true → In x replicas
 listed_In [] x h = absurd (cc)

@@ -1,5 +1,5 @@
-use Rattle.eris_epoch_law.proofs.Counted.{vouched, replied, gave_late}
-use Rattle.eris_epoch_law.proofs.law.what_is_said_is_so.Goals as goal
+use Rattle.eris_key_law.proofs.Counted.{vouched, replied, gave_late}
+use Rattle.eris_key_law.proofs.law.what_is_said_is_so.Goals as goal
 
 pub returns-clause-vouch : goal.returns-clause-vouch
 returns-clause-vouch c = vouched
