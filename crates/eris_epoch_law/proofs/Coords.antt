@@ -1,9 +1,9 @@
 -- The coordinator's step within an epoch: what it found and dropped stays; no found packet has a dropped place;
 -- each thing that it says is so; and why a place is dropped: by notes of quorums of every shard, or with a packet
 -- that has a dropped place already.
-use Rattle.std.proofs.Common.{◌≡◌, ◌⊎◌, inl, inr, ℕ, List, [], ◌∷◌, ◌++◌, Bool, true, false, not, ◌||◌, ◌&&◌, Option, Some, None, refl, sym, ap, ◌∙◌, subst, cond}
-use Rattle.std.specs.Prelude.{if◌then◌else◌, find, fold}
-use Rattle.std.specs.List.{filter, flat_map}
+use Rattle.std.proofs.Common.{◌≡◌, ◌⊎◌, inl, inr, List, [], ◌∷◌, Bool, true, false, not, Option, Some, None, refl, sym, ap, ◌∙◌, subst}
+use Rattle.std.specs.Prelude.{if◌then◌else◌}
+use Rattle.std.specs.List.{filter}
 use Rattle.std.proofs.lemmas.Bool.{cond_both, or_cases, or_left, or_right, cases_Bool, not-true, both_ways}
 use Rattle.eris_base.specs.declared.ids.Place.{Place}
 use Rattle.eris_base.specs.declared.ids.ReplicaId.{ReplicaId}
@@ -12,7 +12,6 @@ use Rattle.eris_base.specs.Each.{Each}
 use Rattle.eris_base.specs.Places.{are_stamp_places}
 use Rattle.eris_base.specs.StampPlaces.{has_place}
 use Rattle.eris_txn.specs.declared.packet.Packet.{Packet}
-use Rattle.eris_log.specs.Growth.{HasAll}
 use Rattle.eris_log.specs.Laws.Entries.{any_among-none}
 use Rattle.eris_log.specs.Laws.Parts.{HasAll-refl}
 use Rattle.eris_log.specs.Laws.Places.{contains_place-with_place, contains_place-with_places, contains_place-places_of, same_place-true, same_place-refl}
@@ -22,7 +21,7 @@ use Rattle.eris_drop.specs.Notes.{note, forget, decided}
 use Rattle.eris_drop.proofs.DropLaws.{note-cases}
 use Rattle.eris_rules.specs.CoordStates.{EpochCoord, EpochCoordOut, unmoved}
 use Rattle.eris_rules.specs.EpochCoords.{finder_of, to_all, tells_found, tells_dropped, asks_all, asks_new, finds_lost, finds_by, find_row, places_had, places_not_had, forget_all, all_hear_dropped, keeps_found, drops_rest, has_wanted, has_row, drops_place, drops_decided, notes_drop, temp_dropped_row, nudge_row, notice_row, epoch_coord_step}
-use Rattle.eris_rules.specs.EpochMessages.{EpochMessage, EpochSend, Stamped, Instructs, Notifies, Exchanges, Responds, Instruction, Request, Found, Dropped, Notice, Find, Has, TempDropped}
+use Rattle.eris_rules.specs.EpochMessages.{EpochMessage, EpochSend, Stamped, Instructs, Notifies, Exchanges, Responds, Request, Found, Dropped, Notice, Find, Has, TempDropped}
 use Rattle.eris_epoch_law.specs.Causes.{CoordSays, IsCoordLater}
 use Rattle.eris_epoch_law.specs.Members.{In}
 use Rattle.eris_epoch_law.proofs.Members.{OfMessage, Each-by_In, Each-flat_map, Each-told, In-append, In-left, In-right, In-filtered, In-filter, find-In, find-none, contained-In, In-contained}
@@ -88,7 +87,14 @@ module _ (config : ConfigValue) (notice : Option Notice) (state : EpochCoord) wh
   -- only something is said
   says_only : (sends : List EpochSend) → Each (OfMessage (CoordSays state)) sends → IsCoordRight config notice state (record { state = state; sends = sends })
   says_only sends said = record {
-    later = IsCoordLater-refl state; says = said; new = λ packet i. inl i; asks = λ place h. inl h; notes = λ one i. inl i; drops = λ place h. inl h; were_asked = λ place h. inl h; apart = λ fits h. h;
+    later = IsCoordLater-refl state;
+    says = said;
+    new = λ packet i. inl i;
+    asks = λ place h. inl h;
+    notes = λ one i. inl i;
+    drops = λ place h. inl h;
+    were_asked = λ place h. inl h;
+    apart = λ fits h. h;
   }
 
   r_still : IsCoordRight config notice state (unmoved state)
@@ -246,8 +252,13 @@ module _ (config : ConfigValue) (notice : Option Notice) (state : EpochCoord) wh
 
   r_only_notes : (one : DropNote) → notice ≡ Some (told one) → IsCoordRight config notice state (unmoved (record state { notes = note state.notes one }))
   r_only_notes one came = record {
-    later = record { found = λ packet i. i; dropped = HasAll-refl state.dropped }; says = tt; new = λ packet i. inl i; asks = λ place h. inl h;
-    notes = λ other i. with_note one other came i; drops = λ place h. inl h; were_asked = λ place h. inl h;
+    later = record { found = λ packet i. i; dropped = HasAll-refl state.dropped };
+    says = tt;
+    new = λ packet i. inl i;
+    asks = λ place h. inl h;
+    notes = λ other i. with_note one other came i;
+    drops = λ place h. inl h;
+    were_asked = λ place h. inl h;
     apart = λ fits h. record { asked = h.asked; dropped = h.dropped };
   }
 

@@ -1,9 +1,9 @@
 -- A part, a replica and a message stay fine: by each call of a part, by each step of a replica, and as the epoch
 -- comes to know more.
-use Rattle.std.proofs.Common.{◌≡◌, ◌⊎◌, inl, inr, ℕ, ◌+◌, List, [], ◌∷◌, Bool, true, false, ◌||◌, ◌&&◌, ◌==◌, Option, Some, None, refl, sym, ap, ◌∙◌, subst, cond}
+use Rattle.std.proofs.Common.{◌≡◌, ◌⊎◌, inl, inr, ℕ, ◌+◌, List, [], ◌∷◌, true, ◌&&◌, ◌==◌, Option, Some, None, refl, sym, ap, ◌∙◌, subst}
 use Rattle.std.proofs.lemmas.Bool.{cond_both, or_cases, and_parts, eqb-true}
-use Rattle.std.specs.List.{AllByRecursion, list_all}
-use Rattle.std.specs.Prelude.{fold, not, ⊤}
+use Rattle.std.specs.List.{AllByRecursion}
+use Rattle.std.specs.Prelude.{not, ⊤}
 use Rattle.eris_base.specs.declared.ids.Epoch.{Epoch}
 use Rattle.eris_base.specs.declared.ids.Place.{Place}
 use Rattle.eris_base.specs.declared.ids.ReplicaId.{ReplicaId}
@@ -21,22 +21,21 @@ use Rattle.eris_log.specs.Growth.{HasAll}
 use Rattle.eris_log.specs.Held.{packet_at}
 use Rattle.eris_log.specs.Laws.Held.{all-packet_at}
 use Rattle.eris_log.specs.Laws.Parts.{IsPart-empty_part, IsPart-hold, IsPart-mark_temp, IsPart-mark_found, IsPart-mark_dropped, IsPart-merge, IsWithin-hold, hold-others, all-hold, contains_place-mark_found, contains_place-mark_dropped, IsUnion-merge, all-merge}
-use Rattle.eris_log.specs.Laws.Places.{AreMarks-with_places, contains_place-with_places, contains_place-places_of, all-contains_place, same_place-true}
-use Rattle.eris_log.specs.PartFacts.{AreMarks, IsPart}
+use Rattle.eris_log.specs.Laws.Places.{AreMarks-with_places, contains_place-with_places, contains_place-places_of, same_place-true}
+use Rattle.eris_log.specs.PartFacts.{AreMarks}
 use Rattle.eris_log.specs.PartValues.{PartValue}
 use Rattle.eris_log.specs.Parts.{empty_part, hold, mark_temp, mark_found, mark_dropped, merge}
-use Rattle.eris_log.specs.Places.{contains_place, same_place, with_places, places_of, are_of_epoch}
+use Rattle.eris_log.specs.Places.{contains_place, same_place, are_of_epoch}
 use Rattle.eris_view.specs.ViewTallies.{union_of}
-use Rattle.eris_rules.specs.EpochMessages.{EpochMessage, EpochSend, Stamped, Instructs, Notifies, Exchanges, Responds, Instruction, Request, Found, Dropped, Notice, Find, Has, TempDropped, Exchange, ViewChange, StartView, SyncAsk, Ack, Settled, Response, Vouch, Reply, Late}
+use Rattle.eris_rules.specs.EpochMessages.{EpochMessage, Stamped, Instructs, Notifies, Exchanges, Responds, Instruction, Request, Found, Dropped, Notice, Find, Has, TempDropped, Exchange, ViewChange, StartView, SyncAsk, Ack, Settled, Response, Vouch, Reply, Late}
 use Rattle.eris_rules.specs.EpochReplicas.{EpochInput, Get, Probe, Suspect, Sync, holds_packet, gives_packet, drops_for_a_time, found_row, dropped_row, row, epoch_step}
-use Rattle.eris_rules.specs.ReplicaStates.{Member, EpochReplica, EpochOut, quiet, is_normal, fresh}
+use Rattle.eris_rules.specs.ReplicaStates.{Member, EpochReplica, EpochOut, is_normal, fresh}
 use Rattle.eris_rules.specs.Settling.{settles, acknowledges, mark_all_dropped, also_asks}
 use Rattle.eris_rules.specs.Speaking.{speaks_on, has_gap, asks_gap, asks_once, tail}
 use Rattle.eris_rules.specs.Views.{shows_part, starts_view, became_normal, tells_view, takes_view}
 use Rattle.eris_epoch_law.specs.Causes.{Says, Spoke}
-use Rattle.eris_epoch_law.specs.Fine.{KnownLists, IsFinePacket, IsFineHeld, IsFoundPlace, IsFine, IsFineNote, IsFineReplica, IsFineFound, IsFineDropped, AreFineDropped, IsFineInstruction, IsFineNotice, IsFineExchange, IsFineResponse, IsFineMessage}
+use Rattle.eris_epoch_law.specs.Fine.{KnownLists, IsFinePacket, IsFineHeld, IsFine, IsFineNote, IsFineReplica, IsFineFound, IsFineDropped, AreFineDropped, IsFineInstruction, IsFineNotice, IsFineExchange, IsFineResponse, IsFineMessage}
 use Rattle.eris_epoch_law.specs.Members.{In}
-use Rattle.eris_epoch_law.specs.Stamped.{HasNumber, IsStampedIn}
 use Rattle.eris_epoch_law.proofs.Leaves.{IsChanging, IsCounting, ComesFrom, Leaf, Nothing, Holds, SpeaksAgain, Gives, Drops, Finds, Loses, Shows, Starts, Waits, Tells, Takes, Acknowledges, Settles, Counts, Hears, Learns, Repeats, AsksHowFar, AsksGap, leaf}
 use Rattle.eris_epoch_law.proofs.Members.{Each-at, All-more}
 
@@ -151,18 +150,24 @@ module _ (epoch : Epoch) where
     unfolding mark_dropped
     fine_dropped part place f h = record {
       facts = IsPart-mark_dropped part place f.facts (h.epoch_is ∙ sym f.epoch_is);
-      epoch_is = f.epoch_is; held = f.held; fnd = f.fnd;
-      perm = record { at = λ other k. elim (or_cases _ _ (sym (contains_place-mark_dropped part place other) ∙ k)) [
-        | inl old ↦ f.perm.at other old
-        | inr same ↦ subst (λ p. contains_place known.dropped p ≡ true) (same_place-true place other same) h.dropped
-      ] };
+      epoch_is = f.epoch_is;
+      held = f.held;
+      fnd = f.fnd;
+      perm = record {
+        at = λ other k. elim (or_cases _ _ (sym (contains_place-mark_dropped part place other) ∙ k)) [
+          | inl old ↦ f.perm.at other old
+          | inr same ↦ subst (λ p. contains_place known.dropped p ≡ true) (same_place-true place other same) h.dropped
+        ];
+      };
     }
 
     fine_all : (part : PartValue) (places : List Place) → Fine part → AreFineDropped epoch known places → Fine (mark_all_dropped part places)
     unfolding mark_all_dropped
     fine_all part places f h = record {
       facts = record { held = f.facts.held; temp = f.facts.temp; fnd = f.facts.fnd; perm = AreMarks-with_places part.epoch part.perm places f.facts.perm (subst (λ e. AreMarks e places) (sym f.epoch_is) h.marks) };
-      epoch_is = f.epoch_is; held = f.held; fnd = f.fnd;
+      epoch_is = f.epoch_is;
+      held = f.held;
+      fnd = f.fnd;
       perm = record { at = λ other k. elim (or_cases _ _ (sym (contains_place-with_places part.perm places other) ∙ k)) [ inl old ↦ f.perm.at other old | inr new ↦ h.dropped.at other new ] };
     }
 
@@ -187,7 +192,11 @@ module _ (epoch : Epoch) where
     fine_empty : (shard : ShardId) → Fine (empty_part epoch shard)
     unfolding empty_part contains_place
     fine_empty shard = record {
-      facts = IsPart-empty_part epoch shard; epoch_is = refl; held = tt; fnd = λ place h. absurd (cc); perm = record { at = λ place h. absurd (cc) };
+      facts = IsPart-empty_part epoch shard;
+      epoch_is = refl;
+      held = tt;
+      fnd = λ place h. absurd (cc);
+      perm = record { at = λ place h. absurd (cc) };
     }
 
     pub fine_fresh : (shard : ShardId) → IsFineReplica epoch known shard (fresh epoch shard)

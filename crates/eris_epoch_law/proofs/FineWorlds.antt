@@ -1,36 +1,34 @@
 -- At each moment of an epoch every part, message and found packet is fine, and what is found is apart from what is
 -- asked and dropped. Every law that compares packets of two replicas rests on it.
-use Rattle.std.proofs.Common.{◌≡◌, ◌⊎◌, inl, inr, ℕ, zero, suc, List, [], ◌∷◌, ◌++◌, Bool, true, false, Option, Some, None, refl, sym, ap, ◌∙◌, subst}
-use Rattle.std.specs.Prelude.{⊤}
+use Rattle.std.proofs.Common.{◌≡◌, inl, inr, ℕ, zero, suc, List, [], ◌∷◌, true, Option, Some, None, sym, subst}
 use Rattle.eris_base.specs.declared.ids.ClientId.{ClientId}
 use Rattle.eris_base.specs.declared.ids.Place.{Place}
 use Rattle.eris_base.specs.declared.ids.ReplicaId.{ReplicaId}
 use Rattle.eris_base.specs.declared.ids.ShardId.{ShardId}
 use Rattle.eris_base.specs.declared.ids.TxnId.{TxnId}
 use Rattle.eris_base.specs.Each.{Each}
-use Rattle.eris_base.proofs.Each.{Each-append, Each-weaker, Each-with}
+use Rattle.eris_base.proofs.Each.{Each-append, Each-weaker}
 use Rattle.eris_txn.specs.declared.body.Body.{Body}
 use Rattle.eris_txn.specs.declared.packet.Packet.{Packet}
 use Rattle.eris_log.specs.Laws.Parts.{HasAll-refl}
 use Rattle.eris_log.specs.Places.{contains_place}
 use Rattle.eris_sequencer.specs.Stamps.{next_packet, stamped_next}
-use Rattle.eris_rules.specs.CoordStates.{EpochCoord, EpochCoordOut, nothing_asked}
-use Rattle.eris_rules.specs.EpochCoords.{epoch_coord_step, nudge_row}
-use Rattle.eris_rules.specs.EpochMessages.{EpochMessage, EpochSend, Stamped, Instructs, Notifies, Exchanges, Responds, Instruction, Request, Found, Dropped, Notice, Find, Has, TempDropped}
+use Rattle.eris_rules.specs.CoordStates.{EpochCoordOut, nothing_asked}
+use Rattle.eris_rules.specs.EpochMessages.{EpochMessage, Stamped, Instructs, Notifies, Exchanges, Responds, Instruction, Request, Found, Dropped, Notice, Find, Has}
 use Rattle.eris_rules.specs.EpochReplicas.{EpochInput, Get, Probe, Suspect, Sync, epoch_step}
 use Rattle.eris_rules.specs.ReplicaStates.{EpochReplica, EpochOut}
 use Rattle.eris_rules.specs.Worlds.{replica_at, with_replica}
 use Rattle.eris_epoch_law.specs.Causes.{CoordSays, Says}
 use Rattle.eris_epoch_law.specs.EpochWorlds.{EpochSystem, EpochWorld, EpochEvent, member_of, first_epoch_world, packet_sends, after_stamping, after_replica, after_coordinator, moment}
-use Rattle.eris_epoch_law.specs.Fine.{KnownLists, known_in, IsFinePacket, IsFine, IsFineReplica, IsFineMessage, IsFineInstruction, IsFineNotice}
+use Rattle.eris_epoch_law.specs.Fine.{known_in, IsFinePacket, IsFineReplica, IsFineMessage, IsFineInstruction, IsFineNotice}
 use Rattle.eris_epoch_law.specs.Members.{In}
 use Rattle.eris_epoch_law.specs.Reading.{read}
-use Rattle.eris_epoch_law.specs.Stamped.{IsStampedIn, IsStampingOf}
+use Rattle.eris_epoch_law.specs.Stamped.{IsStampingOf}
 use Rattle.eris_epoch_law.proofs.Coords.{IsApart, IsCoordRight, notice_in, right_coord, right_nudge}
-use Rattle.eris_epoch_law.proofs.FineParts.{IsMore, IsFine-more, IsFineMessage-more, IsFineReplica-more, packet-more, IsFineInput, fine_fresh, fine_step, said_fine}
+use Rattle.eris_epoch_law.proofs.FineParts.{IsMore, IsFineMessage-more, IsFineReplica-more, packet-more, IsFineInput, fine_fresh, fine_step, said_fine}
 use Rattle.eris_epoch_law.proofs.Frame.{IsWritten, read-some, written, first_fresh}
 use Rattle.eris_epoch_law.proofs.Grow.{right_step}
-use Rattle.eris_epoch_law.proofs.Members.{Each-at, In-append, In-left, In-right, OfMessage}
+use Rattle.eris_epoch_law.proofs.Members.{Each-at, In-left, OfMessage}
 use Rattle.eris_epoch_law.proofs.Moments.{sends_packet, is_stamped}
 use Rattle.eris_epoch_law.proofs.Moves.{Came, Move, Rests, ReplicaMoves, CoordMoves, NudgeMoves, Stamps, moved}
 use Rattle.eris_epoch_law.proofs.StampList.{stamps}
@@ -62,7 +60,10 @@ module _ (system : EpochSystem) (world : EpochWorld) (fine : IsFineWorld system 
             (Each-weaker (OfMessage (Says (member_of system shard replica) state out.state)) (OfMessage (IsFineMessage system.epoch (known_in world)))
             (λ one s. said_fine system.epoch (known_in world) (member_of system shard replica) state out.state one.message was.part now.part s) out.sends (right_step (member_of system shard replica) state input).says);
         replicas = λ a b. by_place now a b (written system world.replicas shard replica state out.state h a b);
-        found = fine.found; asked = fine.asked; dropped = fine.dropped; apart = fine.apart;
+        found = fine.found;
+        asked = fine.asked;
+        dropped = fine.dropped;
+        apart = fine.apart;
       }
     where
       by_place : IsFineReplica system.epoch (known_in world) shard (epoch_step (member_of system shard replica) state input).state → (a : ShardId) (b : ReplicaId)
@@ -133,7 +134,9 @@ module _ (system : EpochSystem) (world : EpochWorld) (fine : IsFineWorld system 
             (sends_packet system packet (IsFineMessage system.epoch (known_in after)) (record { of_epoch = facts.each packet new; stamped = new }));
         replicas = λ a b. IsFineReplica-more system.epoch _ _ more a _ (fine.replicas a b);
         found = λ other i. packet-more system.epoch _ _ more other (fine.found other i);
-        asked = fine.asked; dropped = fine.dropped; apart = fine.apart;
+        asked = fine.asked;
+        dropped = fine.dropped;
+        apart = fine.apart;
       }
 
 fine_move : (system : EpochSystem) (world after : EpochWorld) → Move system world after → IsStampingOf system after.stamping → IsFineWorld system world → IsFineWorld system after

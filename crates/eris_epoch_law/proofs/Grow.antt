@@ -1,14 +1,9 @@
 -- What a replica's step leaves, and what it says: nothing is undone, and each message that it sends tells the
 -- truth of its sender. One match on the rows' cases, and one lemma for each piece of the tail.
-use Rattle.std.proofs.Common.{◌≡◌, ◌⊎◌, inl, inr, ℕ, zero, suc, ◌+◌, ◌-◌, ◌≤◌, ◌<◌, max, List, [], ◌∷◌, ◌++◌, map, Bool, true, false, not, ◌==◌, ◌&&◌, nat_lt, nat_le, Option, Some, None, refl, sym, ap, ◌∙◌, subst, arith, cond}
-use Rattle.std.specs.Prelude.{if◌then◌else◌, fold}
-use Rattle.std.specs.List.{filter, range_with_len}
-use Rattle.std.proofs.lemmas.Bool.{cond_both, eqb-true, and_parts, ltb-true, leb-true, not-true, or_left, or_right}
-use Rattle.std.proofs.lemmas.Bool.Decides.{nat_tests}
-use Rattle.eris_base.specs.declared.ids.Node.{Node}
+use Rattle.std.proofs.Common.{◌≡◌, ℕ, zero, suc, ◌+◌, ◌-◌, ◌≤◌, ◌<◌, List, [], ◌∷◌, true, not, ◌&&◌, Option, Some, None, refl, sym, ap, ◌∙◌, subst, arith}
+use Rattle.std.proofs.lemmas.Bool.{cond_both, and_parts, leb-true, or_left, or_right}
 use Rattle.eris_base.specs.declared.ids.Place.{Place}
 use Rattle.eris_base.specs.declared.ids.ReplicaId.{ReplicaId}
-use Rattle.eris_base.specs.declared.ids.ShardId.{ShardId}
 use Rattle.eris_base.specs.declared.ids.View.{View}
 use Rattle.eris_base.specs.Each.{Each}
 use Rattle.eris_base.specs.StampPlaces.{is_number}
@@ -17,25 +12,23 @@ use Rattle.eris_txn.specs.declared.answer.Answer.{Answer}
 use Rattle.eris_txn.specs.declared.packet.Packet.{Packet}
 use Rattle.eris_log.specs.declared.entry.Entry.{Entry}
 use Rattle.eris_log.specs.Entries.{entry_of, length_of}
-use Rattle.eris_log.specs.Growth.{HasAll, IsWithin}
+use Rattle.eris_log.specs.Growth.{IsWithin}
 use Rattle.eris_log.specs.Held.{packet_at}
 use Rattle.eris_log.specs.Laws.Entries.{NoGap, NoGap-length_of}
 use Rattle.eris_log.specs.Laws.Parts.{HasAll-refl, HoldsAll-refl, IsWithin-refl, IsWithin-trans, IsWithin-hold, IsWithin-mark_temp, IsWithin-mark_found, IsWithin-mark_dropped, IsWithin-merge, contains_place-mark_temp}
 use Rattle.eris_log.specs.Laws.Places.{contains_place-with_places, same_place-refl}
 use Rattle.eris_log.specs.PartValues.{PartValue}
-use Rattle.eris_log.specs.Parts.{hold, mark_found, mark_temp, merge}
-use Rattle.eris_log.specs.Places.{contains_place, same_place, with_places}
-use Rattle.eris_locks.specs.declared.done.Done.{Done}
+use Rattle.eris_log.specs.Parts.{hold, merge}
 use Rattle.eris_view.specs.ViewTallies.{union_of}
 use Rattle.eris_rules.specs.Addressees.{other_replicas, replica_node}
-use Rattle.eris_rules.specs.EpochMessages.{EpochMessage, EpochSend, Stamped, Instructs, Notifies, Exchanges, Responds, send_each, StartView, SyncAsk, Settled}
+use Rattle.eris_rules.specs.EpochMessages.{EpochMessage, Exchanges, send_each, StartView, SyncAsk, Settled}
 use Rattle.eris_rules.specs.EpochReplicas.{EpochInput, has_spoken_for, holds_packet, gives_packet, drops_for_a_time, found_row, dropped_row, row, epoch_step}
 use Rattle.eris_rules.specs.ReplicaAnswers.{is_open, log_upto, answer_after, late_answers}
 use Rattle.eris_rules.specs.ReplicaStates.{Member, EpochReplica, EpochOut, quiet, is_normal, is_learner, others}
-use Rattle.eris_rules.specs.Settling.{shared_number, late_for, tells_late, tells_settled, settles, acknowledges, mark_all_dropped, also_asks}
-use Rattle.eris_rules.specs.Speaking.{replies_with, speaks_of, speaks_of_held, speaks_for, speaks_at, speaks_after, speaks_on, has_gap, find_gap, asks_gap, asks_once, tail}
+use Rattle.eris_rules.specs.Settling.{late_for, tells_late, tells_settled, settles, acknowledges, mark_all_dropped, also_asks}
+use Rattle.eris_rules.specs.Speaking.{replies_with, speaks_of, speaks_of_held, speaks_for, speaks_at, speaks_after, speaks_on, has_gap, asks_gap, asks_once, tail}
 use Rattle.eris_rules.specs.Views.{shows_part, starts_view, became_normal, tells_view, takes_view}
-use Rattle.eris_epoch_law.specs.Causes.{IsLater, AsksFor, Says, IsHome, Spoke, Leads}
+use Rattle.eris_epoch_law.specs.Causes.{IsLater, AsksFor, Says, IsHome, Spoke}
 use Rattle.eris_epoch_law.specs.Members.{In}
 use Rattle.eris_epoch_law.proofs.Leaves.{IsNormal, IsChanging, IsCounting, Leaf, Nothing, Holds, SpeaksAgain, Gives, Drops, Finds, Loses, Shows, Starts, Waits, Tells, Takes, Acknowledges, Settles, Counts, Hears, Learns, Repeats, AsksHowFar, AsksGap, leaf}
 use Rattle.eris_epoch_law.proofs.Members.{OfMessage, Each-by_In, Each-send_each, Each-any, Each-map, Each-told}
@@ -61,7 +54,11 @@ same_part some other e = subst (IsWithin some) (sym e) (IsWithin-refl some)
 pub IsWithin-mark_all : (part : PartValue) (places : List Place) → IsWithin part (mark_all_dropped part places)
 unfolding mark_all_dropped
 IsWithin-mark_all part places = record {
-  epoch = refl; shard = refl; held = HoldsAll-refl part.held; temp = HasAll-refl part.temp; fnd = HasAll-refl part.fnd;
+  epoch = refl;
+  shard = refl;
+  held = HoldsAll-refl part.held;
+  temp = HasAll-refl part.temp;
+  fnd = HasAll-refl part.fnd;
   perm = record { at = λ place h. contains_place-with_places part.perm places place ∙ or_left _ _ h };
 }
 
@@ -102,7 +99,18 @@ quietly me state made h = record { later = h; says = tt; home = tt }
 module _ (me : Member) (before state : EpochReplica) (number : ℕ) (normal : IsNormal state) (entry : entry_of state.part number ≡ Entry.Txn) (whole : NoGap state.part number) where
   abbrev spoke : (packet : Packet) → packet_at state.part.held number ≡ Some packet → Spoke me state.view state.status state.part state.view me.shard me.replica packet.stamp packet.id (Rattle.eris_locks.specs.States.phase_of packet.body)
   spoke packet held = record {
-    number = number; packet = packet; own_shard = refl; own = refl; in_view = refl; normal = normal; held = held; entry = entry; whole = whole; of_stamp = refl; of_id = refl; of_phase = refl;
+    number = number;
+    packet = packet;
+    own_shard = refl;
+    own = refl;
+    in_view = refl;
+    normal = normal;
+    held = held;
+    entry = entry;
+    whole = whole;
+    of_stamp = refl;
+    of_id = refl;
+    of_phase = refl;
   }
 
   said_reply : (packet : Packet) (answer : Option Answer) → packet_at state.part.held number ≡ Some packet → is_learner me state.view ≡ true
@@ -172,11 +180,15 @@ unfolding tells_late
 said_late me state made input number counting lt =
     Each-map (OfMessage (Says me state (record made { settled = number }))) (λ done. late_for me done) _
     (Each-by_In _ _ (λ done among. record {
-      done = done; own_shard = refl; own = refl;
+      done = done;
+      own_shard = refl;
+      own = refl;
       leads = record { in_view = refl; normal = ap is_normal counting.status ∙ counting.normal; learner = ap (is_learner me) counting.view ∙ counting.learner };
       raised = subst (λ n. n < number) counting.settled lt;
       among = subst (λ n. In done (late_answers me.shard made.part.epoch (log_upto me.prior made.part number) n)) counting.settled among;
-      of_id = refl; of_phase = refl; is_answer = refl;
+      of_id = refl;
+      of_phase = refl;
+      is_answer = refl;
     }))
 
 home_late : (me : Member) (made : EpochReplica) (number : ℕ) → Each (λ one. IsHome me.shard one.to) (tells_late me made number)

@@ -1,18 +1,15 @@
 -- Each row of a replica within an epoch, taken apart once: what a step can be, before the tail. Every fact on a
 -- replica's steps is then one match on these cases.
-use Rattle.std.proofs.Common.{◌≡◌, ◌⊎◌, inl, inr, ℕ, zero, suc, ◌+◌, ◌-◌, ◌^◌, ◌≤◌, ◌<◌, List, [], ◌∷◌, ◌++◌, Bool, true, false, not, ◌==◌, ◌&&◌, ◌||◌, nat_lt, nat_le, Option, Some, None, is_some, refl, sym, ap, ◌∙◌, subst, arith, cond}
+use Rattle.std.proofs.Common.{◌≡◌, ◌⊎◌, inl, inr, ℕ, ◌+◌, ◌≤◌, ◌<◌, List, [], ◌∷◌, Bool, true, false, not, ◌==◌, ◌&&◌, ◌||◌, nat_lt, Option, Some, None, refl, sym, ap, ◌∙◌, subst, arith}
 use Rattle.std.specs.Prelude.{if◌then◌else◌}
 use Rattle.std.proofs.lemmas.Bool.{cond_both, eqb-true, and_parts, ltb-true, not-true}
-use Rattle.std.proofs.lemmas.Bool.Decides.{nat_tests}
 use Rattle.eris_base.specs.declared.ids.Place.{Place}
 use Rattle.eris_base.specs.declared.ids.ReplicaId.{ReplicaId}
-use Rattle.eris_base.specs.declared.ids.ShardId.{ShardId}
 use Rattle.eris_base.specs.declared.ids.View.{View}
 use Rattle.eris_base.specs.Each.{Each}
-use Rattle.eris_base.specs.Places.{number_in}
 use Rattle.eris_base.specs.Quorums.{same_replica}
 use Rattle.eris_txn.specs.declared.packet.Packet.{Packet}
-use Rattle.eris_log.specs.Entries.{holder_of, length_of, covers}
+use Rattle.eris_log.specs.Entries.{holder_of, covers}
 use Rattle.eris_log.specs.Held.{packet_at}
 use Rattle.eris_log.specs.PartValues.{PartValue}
 use Rattle.eris_drop.specs.declared.request.RequestAnswer.{RequestAnswer}
@@ -20,13 +17,12 @@ use Rattle.eris_drop.specs.Requests.{is_known, answer_by, answer_request}
 use Rattle.eris_view.proofs.TallyLaws.{each-with_part}
 use Rattle.eris_view.specs.AckTallies.{with_ack}
 use Rattle.eris_view.specs.ViewTallies.{with_part, is_ready}
-use Rattle.eris_rules.specs.declared.replica_status.ReplicaStatus.TheVariants.{Normal, Changing}
 use Rattle.eris_rules.specs.EpochMessages.{EpochMessage, Stamped, Instructs, Notifies, Exchanges, Responds, Instruction, Request, Found, Dropped, Exchange, ViewChange, StartView, SyncAsk, Ack, Settled}
 use Rattle.eris_rules.specs.EpochReplicas.{EpochInput, Get, Probe, Suspect, Sync, has_spoken_for, speaks_again, holds_packet, txn_at, txn_named, txn_row, gives_packet, drops_for_a_time, answers_request, request_row, found_row, dropped_row, probe_normal, probe_changing, probe_row, instruction_row, exchange_row, message_row, row}
 use Rattle.eris_rules.specs.ReplicaStates.{Member, EpochReplica, EpochOut, quiet, is_normal, is_learner}
-use Rattle.eris_rules.specs.Settling.{shared_number, tells_settled, settles, raises, enters_above, follows, leads, acknowledges, sync_ask_same, sync_ask_row, notes_ack, ack_row, mark_all_dropped, learns, hears_settled, settled_same, settled_row, repeats_settled, raises_or_repeats, also_asks, sync_row}
+use Rattle.eris_rules.specs.Settling.{shared_number, tells_settled, settles, raises, enters_above, acknowledges, sync_ask_same, sync_ask_row, notes_ack, ack_row, mark_all_dropped, learns, hears_settled, settled_same, settled_row, repeats_settled, raises_or_repeats, also_asks, sync_row}
 use Rattle.eris_rules.specs.Speaking.{speaks_for, has_gap, find_gap}
-use Rattle.eris_rules.specs.Views.{entered, shows_part, view_tally, starts_view, tests_view, enters_view, suspect_row, notes_part, tells_view, view_change_same, view_change_shown, is_shown_to, view_change_row, begins_here, takes_view, start_view_row}
+use Rattle.eris_rules.specs.Views.{entered, shows_part, view_tally, starts_view, tests_view, enters_view, suspect_row, notes_part, tells_view, view_change_same, view_change_shown, view_change_row, begins_here, takes_view, start_view_row}
 use Rattle.eris_epoch_law.proofs.Members.{Each-by_In}
 use Rattle.eris_epoch_law.proofs.Frame.{shard_equal, view_equal}
 use Rattle.eris_epoch_law.specs.Members.{In}
@@ -182,7 +178,10 @@ module _ (me : Member) (state : EpochReplica) where
   l_notes_here replica view part e same changing learner =
       l_tests _ _
       (record {
-        part = refl; settled = refl; status = changing; view = omega arith;
+        part = refl;
+        settled = refl;
+        status = changing;
+        view = omega arith;
         noted = each-with_part (λ r p. ComesFrom me state (Get (Exchanges (ViewChange replica view part))) state.view (r, p)) state.noted replica part
             (kept-noted _ state.view refl)
             (subst (λ v. ComesFrom me state (Get (Exchanges (ViewChange replica view part))) v (replica, part)) same (came replica view part e));
@@ -261,7 +260,13 @@ module _ (me : Member) (state : EpochReplica) where
       counting : view ≡ state.view → IsNormal state → is_learner me state.view ≡ true → same_replica replica me.replica ≡ false
           → IsCounting me state (Get (Exchanges (Ack replica view length))) (record state { acks = with_ack state.acks replica length })
       counting e normal learner other = record {
-        part = refl; settled = refl; status = refl; normal = normal; view = refl; learner = learner; noted = refl;
+        part = refl;
+        settled = refl;
+        status = refl;
+        normal = normal;
+        view = refl;
+        learner = learner;
+        noted = refl;
         acks = inr (replica, length, ap (λ v. Get (Exchanges (Ack replica v length))) e, other, refl);
       }
 

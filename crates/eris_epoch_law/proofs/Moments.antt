@@ -1,6 +1,6 @@
 -- A run by its moments: over any two moments nothing is undone; and each message that was sent has a cause at an
 -- earlier moment. Every argument on what a replica knew when it spoke rests on these two.
-use Rattle.std.proofs.Common.{◌≡◌, ◌⊎◌, inl, inr, ℕ, zero, suc, ◌≤◌, ◌<◌, List, [], ◌∷◌, ◌++◌, Bool, true, false, Option, Some, None, refl, sym, ap, ◌∙◌, subst, arith}
+use Rattle.std.proofs.Common.{◌≡◌, ◌⊎◌, inl, inr, ℕ, zero, suc, ◌≤◌, ◌<◌, List, [], ◌∷◌, Option, Some, refl, sym, ap, ◌∙◌, subst, arith}
 use Rattle.eris_base.specs.declared.ids.ClientId.{ClientId}
 use Rattle.eris_base.specs.declared.ids.ReplicaId.{ReplicaId}
 use Rattle.eris_base.specs.declared.ids.ShardId.{ShardId}
@@ -15,7 +15,7 @@ use Rattle.eris_rules.specs.CoordStates.{EpochCoordOut}
 use Rattle.eris_rules.specs.EpochMessages.{EpochMessage, EpochSend, Notice, Stamped, send_each}
 use Rattle.eris_rules.specs.ReplicaStates.{Member, EpochReplica, EpochOut}
 use Rattle.eris_rules.specs.Worlds.{replica_at, with_replica}
-use Rattle.eris_epoch_law.specs.Causes.{IsLater, Says, IsHome, CoordSays, Cause, ByReplica, ByCoordinator, BySequencer, IsCoordLater, IsWorldLater}
+use Rattle.eris_epoch_law.specs.Causes.{IsLater, Says, IsHome, Cause, ByReplica, ByCoordinator, BySequencer, IsWorldLater}
 use Rattle.eris_epoch_law.specs.EpochWorlds.{EpochSystem, EpochWorld, EpochEvent, member_of, first_epoch_world, packet_sends, after_stamping, after_replica, after_coordinator, moment}
 use Rattle.eris_epoch_law.specs.Members.{In}
 use Rattle.eris_epoch_law.specs.Reading.{read}

@@ -1,7 +1,7 @@
 -- The kinds of step that an epoch makes, taken apart once: a replica takes an input, the coordinator takes a
 -- message or is nudged, an ask is stamped, or nothing happens. Every invariant is one match on these.
-use Rattle.std.proofs.Common.{◌≡◌, ℕ, suc, List, Bool, true, false, not, ◌&&◌, Option, Some, None, refl}
-use Rattle.std.specs.Prelude.{slice_get, if◌then◌else◌, ⊤}
+use Rattle.std.proofs.Common.{◌≡◌, ℕ, suc, List, true, false, not, ◌&&◌, Option, Some, None, refl}
+use Rattle.std.specs.Prelude.{slice_get, ⊤}
 use Rattle.std.proofs.lemmas.Bool.{cond_both, and_parts, not-true}
 use Rattle.eris_base.specs.declared.ids.ClientId.{ClientId}
 use Rattle.eris_base.specs.declared.ids.Node.{Node}

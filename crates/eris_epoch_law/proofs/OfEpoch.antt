@@ -1,6 +1,6 @@
 -- Each message that is sent in an epoch is of the epoch: so is its packet, place, part or stamp. It is used where each
 -- epoch of a whole run is shown to be a run of this machine: the message that a whole node sends leads back to it.
-use Rattle.std.proofs.Common.{◌≡◌, List, [], ◌∷◌, true, ◌==◌, ◌&&◌, ℕ}
+use Rattle.std.proofs.Common.{◌≡◌, List, [], ◌∷◌, true, ℕ}
 use Rattle.std.specs.Prelude.{⊤}
 use Rattle.std.proofs.lemmas.Bool.{and_parts, eqb-true}
 use Rattle.eris_base.specs.declared.ids.Epoch.{Epoch}
@@ -62,4 +62,3 @@ module _ (epoch : Epoch) (known : KnownLists) where
 
 pub sent_is_of : (system : EpochSystem) (events : List EpochEvent) (k : ℕ) (one : EpochSend) → In one (moment system events k).sent → NamesEpoch one.message → IsOf system.epoch one.message
 sent_is_of system events k one i h = fine_is_of system.epoch (known_in (moment system events k)) one.message (Each-at _ (moment system events k).sent one (all_fine system events k).sent i) h
-

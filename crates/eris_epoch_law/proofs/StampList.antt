@@ -1,32 +1,28 @@
 -- The list of an epoch's sequencer at each moment: numbers 1, 2, 3, .. on each shard, each naming one packet.
-use Rattle.std.proofs.Common.{◌≡◌, ◌⊎◌, inl, inr, ℕ, zero, suc, ◌+◌, ◌-◌, ◌≤◌, ◌<◌, List, [], ◌∷◌, ◌++◌, map, length, replicate, Bool, true, false, ◌&&◌, ◌||◌, ◌==◌, nat_lt, Option, Some, None, refl, sym, ap, ◌∙◌, subst, arith, cond, take}
+use Rattle.std.proofs.Common.{◌≡◌, ◌⊎◌, inl, inr, ℕ, zero, suc, ◌+◌, ◌≤◌, ◌<◌, List, [], ◌∷◌, ◌++◌, map, replicate, Bool, true, false, ◌||◌, ◌==◌, nat_lt, Some, None, refl, sym, ap, ◌∙◌, subst, arith, cond}
 use Rattle.std.specs.Prelude.{slice_index, find}
 use Rattle.std.specs.List.{list_all}
 use Rattle.std.specs.Option.{option_map}
-use Rattle.std.proofs.lemmas.Bool.{and_parts, ltb-true, eqb-true, cases_eq, cases_lt}
-use Rattle.std.proofs.lemmas.Bool.Decides.{nat_tests}
+use Rattle.std.proofs.lemmas.Bool.{and_parts, ltb-true, eqb-true, cases_lt}
 use Rattle.std.proofs.lemmas.List.{length-replicate}
 use Rattle.eris_base.specs.declared.ids.ClientId.{ClientId}
 use Rattle.eris_base.specs.declared.ids.ShardId.{ShardId}
 use Rattle.eris_base.specs.declared.ids.TxnId.{TxnId}
-use Rattle.eris_base.specs.ConfigLimits.{ConfigValue}
-use Rattle.eris_base.specs.Each.{Each}
-use Rattle.eris_base.specs.Places.{number_in, are_stamp_places}
+use Rattle.eris_base.specs.Places.{number_in}
 use Rattle.eris_base.proofs.Each.{Each-append}
 use Rattle.eris_txn.specs.declared.body.Body.{Body}
 use Rattle.eris_txn.specs.declared.packet.Packet.{Packet}
 use Rattle.eris_txn.specs.Bodies.{participants_of, has_shard}
 use Rattle.eris_txn.proofs.BodyLaws.{participants-ascend}
 use Rattle.eris_sequencer.specs.declared.stamping.Stamping.{Stamping}
-use Rattle.eris_sequencer.specs.SequencerValues.{SequencerValue}
 use Rattle.eris_sequencer.specs.Sequencers.{new_stamping, are_shards_of, is_in_place}
-use Rattle.eris_sequencer.specs.Stamps.{new_sequencer, counter_of, next_places, with_numbers, has_counters, next_stamp, next_packet, after_stamp, stamped_next, is_full, AreRaised}
+use Rattle.eris_sequencer.specs.Stamps.{new_sequencer, counter_of, next_places, with_numbers, has_counters, next_stamp, next_packet, after_stamp, stamped_next, AreRaised}
 use Rattle.eris_sequencer.proofs.SequencerLaws.{some_shard}
 use Rattle.eris_sequencer.proofs.StampLaws.{AreRaised-next, next_places-stamp}
 use Rattle.eris_epoch_law.specs.EpochWorlds.{EpochSystem, EpochWorld, EpochEvent, first_epoch_world, after_stamping, after_replica, after_coordinator, moment}
 use Rattle.eris_epoch_law.specs.Members.{In}
 use Rattle.eris_epoch_law.specs.Stamped.{HasNumber, IsStampedIn, IsBelow, Rise, IsStampingOf}
-use Rattle.eris_epoch_law.proofs.Members.{Each-by_In, In-append, In-left, In-right}
+use Rattle.eris_epoch_law.proofs.Members.{In-append, In-left, In-right}
 use Rattle.eris_epoch_law.proofs.Moves.{Move, Rests, ReplicaMoves, CoordMoves, NudgeMoves, Stamps, moved}
 
 -- the number that the next stamp gives a shard

@@ -1,6 +1,6 @@
 -- What a message says of its sender. Each message that was sent in the epoch has a cause: an earlier moment, at
 -- which a node took a step and sent it, and what held of that node then. So history needs no record of its own.
-use Rattle.std.specs.Prelude.{◌≡◌, ◌<◌, ◌≤◌, ◌+◌, ◌-◌, ℕ, Bool, true, false, Option, Some, None, List, ⊤}
+use Rattle.std.specs.Prelude.{◌≡◌, ◌<◌, ◌≤◌, ◌+◌, ◌-◌, ℕ, true, false, Some, None, List, ⊤}
 use Rattle.eris_base.specs.declared.ids.Node.{Node}
 use Rattle.eris_base.specs.declared.ids.Node.TheVariants.{Sequencer, Coordinator, Replica, Client}
 use Rattle.eris_base.specs.declared.ids.Phase.{Phase}

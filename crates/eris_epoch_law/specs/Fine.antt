@@ -1,7 +1,7 @@
 -- What holds of every part and message of an epoch, wherever it stands: each packet was stamped in the epoch and
 -- stands at the number that its stamp gives the shard; what is found was found, and what is dropped was dropped;
 -- and all is of the epoch.
-use Rattle.std.specs.Prelude.{◌≡◌, ℕ, true, false, List, ⊤}
+use Rattle.std.specs.Prelude.{◌≡◌, ℕ, true, List, ⊤}
 use Rattle.std.specs.List.{AllByRecursion}
 use Rattle.eris_base.specs.declared.ids.Epoch.{Epoch}
 use Rattle.eris_base.specs.declared.ids.Place.{Place}
@@ -14,7 +14,7 @@ use Rattle.eris_log.specs.Growth.{HasAll}
 use Rattle.eris_log.specs.PartFacts.{AreMarks, IsPart}
 use Rattle.eris_log.specs.PartValues.{PartValue}
 use Rattle.eris_log.specs.Places.{contains_place}
-use Rattle.eris_rules.specs.EpochMessages.{EpochMessage, EpochSend, Stamped, Instructs, Notifies, Exchanges, Responds, Instruction, Request, Found, Dropped, Notice, Find, Has, TempDropped, Exchange, ViewChange, StartView, SyncAsk, Ack, Settled, Response, Vouch, Reply, Late}
+use Rattle.eris_rules.specs.EpochMessages.{EpochMessage, Stamped, Instructs, Notifies, Exchanges, Responds, Instruction, Request, Found, Dropped, Notice, Find, Has, TempDropped, Exchange, ViewChange, StartView, SyncAsk, Ack, Settled, Response, Vouch, Reply, Late}
 use Rattle.eris_rules.specs.ReplicaStates.{EpochReplica}
 use Rattle.eris_epoch_law.specs.EpochWorlds.{EpochWorld}
 use Rattle.eris_epoch_law.specs.Members.{In}

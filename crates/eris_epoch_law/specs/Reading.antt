@@ -5,7 +5,7 @@ use Rattle.eris_base.specs.declared.ids.ReplicaId.{ReplicaId}
 use Rattle.eris_base.specs.declared.ids.ShardId.{ShardId}
 use Rattle.eris_rules.specs.ReplicaStates.{EpochReplica, fresh}
 use Rattle.eris_rules.specs.Worlds.{replica_at}
-use Rattle.eris_epoch_law.specs.EpochWorlds.{EpochSystem, EpochWorld, EpochEvent, moment}
+use Rattle.eris_epoch_law.specs.EpochWorlds.{EpochSystem, EpochEvent, moment}
 
 abbrev pub or_fresh : EpochReplica → Option EpochReplica → EpochReplica
 or_fresh none None = none

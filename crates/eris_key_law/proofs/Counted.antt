@@ -1,43 +1,34 @@
 -- What a client counts: from the Vouches and the Reply that were sent, each replica of a quorum held the packet with
 -- no gap before it, so the packet and the log behind the answer are kept.
-use Rattle.std.proofs.Common.{◌≡◌, ◌⊎◌, inl, inr, ℕ, zero, suc, ◌+◌, ◌*◌, ◌≤◌, ◌<◌, List, [], ◌∷◌, Bool, true, false, ◌==◌, ◌&&◌, Option, Some, None, refl, sym, ap, ◌∙◌, subst, arith}
-use Rattle.std.specs.List.{list_all}
-use Rattle.std.specs.Prelude.{⊤}
-use Rattle.std.proofs.lemmas.Bool.{and_parts, eqb-true, cases_Bool, both_ways}
-use Rattle.eris_base.specs.declared.ids.Epoch.{Epoch}
+use Rattle.std.proofs.Common.{◌≡◌, inl, inr, ℕ, suc, ◌+◌, ◌*◌, ◌≤◌, ◌<◌, List, Some, sym, ap, ◌∙◌, subst, arith}
+use Rattle.std.proofs.lemmas.Bool.{cases_Bool, both_ways}
 use Rattle.eris_base.specs.declared.ids.Node.{Node}
 use Rattle.eris_base.specs.declared.ids.Phase.{Phase}
-use Rattle.eris_base.specs.declared.ids.Place.{Place}
 use Rattle.eris_base.specs.declared.ids.ReplicaId.{ReplicaId}
 use Rattle.eris_base.specs.declared.ids.ShardId.{ShardId}
 use Rattle.eris_base.specs.declared.ids.TxnId.{TxnId}
 use Rattle.eris_base.specs.declared.ids.View.{View}
 use Rattle.eris_base.specs.declared.stamp.Stamp.{Stamp}
-use Rattle.eris_base.specs.Each.{Each}
 use Rattle.eris_base.specs.Places.{number_in}
-use Rattle.eris_base.specs.Quorums.{has_replica, learner_of}
+use Rattle.eris_base.specs.Quorums.{learner_of}
 use Rattle.eris_txn.specs.declared.answer.Answer.{Answer}
 use Rattle.eris_txn.specs.declared.packet.Packet.{Packet}
-use Rattle.eris_log.specs.declared.entry.Entry.{Entry}
-use Rattle.eris_log.specs.Entries.{entry_of, is_dropped}
+use Rattle.eris_log.specs.Entries.{is_dropped}
 use Rattle.eris_log.specs.Laws.Entries.{NoGap}
-use Rattle.eris_log.specs.Places.{any_among, are_of_epoch}
-use Rattle.eris_rules.specs.EpochMessages.{EpochMessage, EpochSend, Stamped, Instructs, Notifies, Exchanges, Responds, Instruction, Request, Found, Dropped, Notice, Find, Has, TempDropped, Exchange, ViewChange, StartView, SyncAsk, Ack, Settled, Response, Vouch, Reply, Late}
-use Rattle.eris_rules.specs.Outer.{IsOf}
+use Rattle.eris_log.specs.Places.{any_among}
+use Rattle.eris_rules.specs.EpochMessages.{Responds, Vouch, Reply, Late}
 use Rattle.eris_rules.specs.ReplicaStates.{EpochReplica}
-use Rattle.eris_epoch_law.specs.Causes.{Cause, ByReplica, ByCoordinator, BySequencer, Spoke, Vouched, Replied, GaveLate}
+use Rattle.eris_epoch_law.specs.Causes.{Cause, ByReplica, ByCoordinator, BySequencer, Spoke, Replied, GaveLate}
 use Rattle.eris_epoch_law.specs.EpochWorlds.{EpochSystem, EpochWorld, EpochEvent, member_of, moment}
-use Rattle.eris_epoch_law.specs.Fine.{KnownLists, known_in, IsFineMessage}
+use Rattle.eris_epoch_law.specs.Fine.{known_in}
 use Rattle.eris_epoch_law.specs.Members.{In}
-use Rattle.eris_key_law.specs.Quorums.{IsQuorum, Reached, SpokePast}
+use Rattle.eris_key_law.specs.Quorums.{SpokePast}
 use Rattle.eris_epoch_law.specs.Reading.{replica_then}
 use Rattle.eris_key_law.specs.Spoken.{SpokeThen, RepliedThen, GaveLateThen, IsCounted}
-use Rattle.eris_epoch_law.specs.Stamped.{HasNumber, IsStampedIn}
-use Rattle.eris_epoch_law.proofs.FineParts.{epoch_equal, held_fine}
-use Rattle.eris_epoch_law.proofs.FineWorlds.{all_fine}
+use Rattle.eris_epoch_law.specs.Stamped.{HasNumber}
+use Rattle.eris_epoch_law.proofs.FineParts.{held_fine}
 use Rattle.eris_epoch_law.proofs.Grow.{NoGap-less}
 use Rattle.eris_key_law.proofs.KeyLemma.{no_gap, fine_part, own_shard, dropped_by, key}
-use Rattle.eris_epoch_law.proofs.Members.{Each-at}
 use Rattle.eris_epoch_law.proofs.Moments.{later, cause}
 
 module _ (system : EpochSystem) (events : List EpochEvent) where
@@ -51,7 +42,9 @@ module _ (system : EpochSystem) (events : List EpochEvent) where
   spoke_by : (k j : ℕ) → j < k → (shard : ShardId) (view : View) (stamp : Stamp) (id : TxnId) (phase : Phase) (replica : ReplicaId) (a : ShardId) (b : ReplicaId) → b.0 < 2 * system.config.f + 1
       → Spoke (member_of system a b) (then (suc j) a b).view (then (suc j) a b).status (then (suc j) a b).part view shard replica stamp id phase → SpokeThen system events k shard view stamp id phase replica
   spoke_by k j lt shard view stamp id phase replica a b range said = record {
-    moment = suc j; by = omega arith; there = subst (λ (x : ReplicaId). x.0 < 2 * system.config.f + 1) (sym said.own) range;
+    moment = suc j;
+    by = omega arith;
+    there = subst (λ (x : ReplicaId). x.0 < 2 * system.config.f + 1) (sym said.own) range;
     spoke = subst (λ z. Spoke (member_of system shard z) (then (suc j) shard z).view (then (suc j) shard z).status (then (suc j) shard z).part view shard replica stamp id phase) (sym said.own)
         (subst (λ z. Spoke (member_of system z b) (then (suc j) z b).view (then (suc j) z b).status (then (suc j) z b).part view shard replica stamp id phase) (sym said.own_shard) said);
   }
@@ -72,7 +65,9 @@ module _ (system : EpochSystem) (events : List EpochEvent) where
       named : (j : ℕ) → j < k → (a : ShardId) (b : ReplicaId) → b.0 < 2 * system.config.f + 1
           → Replied (member_of system a b) (then (suc j) a b).view (then (suc j) a b).status (then (suc j) a b).part view shard replica stamp id phase answer → RepliedThen system events k shard view stamp id phase answer replica
       named j lt a b range said = record {
-        moment = suc j; by = omega arith; there = subst (λ (x : ReplicaId). x.0 < 2 * system.config.f + 1) (sym said.spoke.own) range;
+        moment = suc j;
+        by = omega arith;
+        there = subst (λ (x : ReplicaId). x.0 < 2 * system.config.f + 1) (sym said.spoke.own) range;
         replied = subst (λ z. Replied (member_of system shard z) (then (suc j) shard z).view (then (suc j) shard z).status (then (suc j) shard z).part view shard replica stamp id phase answer) (sym said.spoke.own)
             (subst (λ z. Replied (member_of system z b) (then (suc j) z b).view (then (suc j) z b).status (then (suc j) z b).part view shard replica stamp id phase answer) (sym said.spoke.own_shard) said);
       }
@@ -89,7 +84,9 @@ module _ (system : EpochSystem) (events : List EpochEvent) where
       named : (j : ℕ) → j < k → (a : ShardId) (b : ReplicaId) → b.0 < 2 * system.config.f + 1
           → GaveLate (member_of system a b) (then j a b) (then (suc j) a b).view (then (suc j) a b).status (then (suc j) a b).part (then (suc j) a b).settled shard replica id phase answer → GaveLateThen system events k shard id phase answer replica
       named j lt a b range said = record {
-        moment_before = j; by = lt; there = subst (λ (x : ReplicaId). x.0 < 2 * system.config.f + 1) (sym said.own) range;
+        moment_before = j;
+        by = lt;
+        there = subst (λ (x : ReplicaId). x.0 < 2 * system.config.f + 1) (sym said.own) range;
         gave = subst (λ z. GaveLate (member_of system shard z) (then j shard z) (then (suc j) shard z).view (then (suc j) shard z).status (then (suc j) shard z).part (then (suc j) shard z).settled shard replica id phase answer) (sym said.own)
             (subst (λ z. GaveLate (member_of system z b) (then j z b) (then (suc j) z b).view (then (suc j) z b).status (then (suc j) z b).part (then (suc j) z b).settled shard replica id phase answer) (sym said.own_shard) said);
       }
@@ -130,7 +127,11 @@ module _ (system : EpochSystem) (events : List EpochEvent) where
       each = λ x h.
           let s = counted.each x h in
           record {
-            moment = s.moment; by = s.by; there = s.there; in_view = sym s.spoke.in_view; normal = s.spoke.normal;
+            moment = s.moment;
+            by = s.by;
+            there = s.there;
+            in_view = sym s.spoke.in_view;
+            normal = s.spoke.normal;
             whole = subst (NoGap (then s.moment shard x).part) (same_number k shard view stamp id phase x (learner_of view system.config.f) s said) s.spoke.whole;
           };
       learner = record { moment = said.moment; by = said.by; there = said.there; in_view = sym said.spoke.in_view; normal = said.spoke.normal; whole = said.spoke.whole };
@@ -145,7 +146,12 @@ module _ (system : EpochSystem) (events : List EpochEvent) where
         quorum = counted.quorum;
         each = λ x h. let r = counted_past.each x h in record { moment = r.moment; by = (let by = r.by in omega arith); there = r.there; in_view = r.in_view; normal = r.normal; whole = NoGap-less _ said.spoke.number n high r.whole };
         learner = record {
-          moment = said.moment; by = (let by = said.by in omega arith); there = said.there; in_view = sym said.spoke.in_view; normal = said.spoke.normal; whole = NoGap-less _ said.spoke.number n high said.spoke.whole;
+          moment = said.moment;
+          by = (let by = said.by in omega arith);
+          there = said.there;
+          in_view = sym said.spoke.in_view;
+          normal = said.spoke.normal;
+          whole = NoGap-less _ said.spoke.number n high said.spoke.whole;
         };
       }
 

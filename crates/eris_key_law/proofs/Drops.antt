@@ -1,6 +1,6 @@
 -- The first dropped place of a packet was dropped by quorums of every shard. A place that is dropped with a packet
 -- is never the packet's first, so each packet that is dropped was once dropped by quorums.
-use Rattle.std.proofs.Common.{◌≡◌, ◌⊎◌, inl, inr, ℕ, zero, suc, ◌+◌, ◌*◌, ◌≤◌, ◌<◌, List, [], ◌∷◌, Bool, true, false, ◌&&◌, ◌==◌, Option, Some, None, refl, sym, ap, ◌∙◌, subst, arith}
+use Rattle.std.proofs.Common.{◌≡◌, inl, inr, ℕ, zero, suc, ◌≤◌, ◌<◌, List, [], true, false, Option, Some, None, refl, sym, ap, ◌∙◌, subst, arith}
 use Rattle.std.proofs.lemmas.Bool.{and_parts, and_from, eqb-true, eq-eqb, cases_Bool, both_ways}
 use Rattle.eris_base.specs.declared.ids.Epoch.{Epoch}
 use Rattle.eris_base.specs.declared.ids.Node.{Node}
@@ -10,26 +10,25 @@ use Rattle.eris_base.specs.declared.ids.ReplicaId.{ReplicaId}
 use Rattle.eris_base.specs.declared.ids.ShardId.{ShardId}
 use Rattle.eris_base.specs.declared.ids.View.{View}
 use Rattle.eris_base.specs.Places.{number_in}
-use Rattle.eris_base.specs.Quorums.{has_replica}
 use Rattle.eris_base.specs.StampPlaces.{has_place, is_number}
 use Rattle.eris_txn.specs.declared.packet.Packet.{Packet}
 use Rattle.eris_log.specs.Laws.Entries.{any_among-none, any_among-some}
 use Rattle.eris_log.specs.Laws.Places.{contains_place-places_of, same_place-true}
-use Rattle.eris_log.specs.Places.{contains_place, same_place, places_of, any_among}
+use Rattle.eris_log.specs.Places.{contains_place, places_of, any_among}
 use Rattle.eris_drop.specs.declared.drop_note.DropNote.{DropNote}
 use Rattle.eris_drop.specs.Notes.{same_note, has_note, noted_replicas, HasDropQuorum}
 use Rattle.eris_drop.proofs.DropLaws.{note_of, noted-below, noted-has_note, IsDecided-from_test}
-use Rattle.eris_rules.specs.CoordStates.{EpochCoord, nothing_asked}
+use Rattle.eris_rules.specs.CoordStates.{nothing_asked}
 use Rattle.eris_rules.specs.EpochCoords.{nudge_row}
-use Rattle.eris_rules.specs.EpochMessages.{EpochMessage, EpochSend, Stamped, Instructs, Notifies, Exchanges, Responds, Notice, Has, TempDropped}
+use Rattle.eris_rules.specs.EpochMessages.{EpochMessage, Stamped, Instructs, Notifies, Exchanges, Responds, Notice, Has, TempDropped}
 use Rattle.eris_epoch_law.specs.Causes.{Cause, ByReplica, ByCoordinator, BySequencer, DroppedForATime}
 use Rattle.eris_epoch_law.specs.EpochWorlds.{EpochSystem, EpochWorld, EpochEvent, member_of, first_epoch_world, after_stamping, after_replica, after_coordinator, moment}
-use Rattle.eris_epoch_law.specs.Fine.{known_in, IsFinePacket, IsFineMessage}
+use Rattle.eris_epoch_law.specs.Fine.{known_in, IsFinePacket}
 use Rattle.eris_epoch_law.specs.Members.{In}
-use Rattle.eris_key_law.specs.Quorums.{IsQuorum, DroppedThen, IsAgreed}
+use Rattle.eris_key_law.specs.Quorums.{DroppedThen, IsAgreed}
 use Rattle.eris_epoch_law.specs.Reading.{replica_then}
 use Rattle.eris_epoch_law.specs.Stamped.{HasNumber, IsStampedIn}
-use Rattle.eris_epoch_law.proofs.Coords.{told, IsByQuorums, IsWithPacket, IsCoordRight, notice_in, right_coord}
+use Rattle.eris_epoch_law.proofs.Coords.{told, IsByQuorums, IsWithPacket, notice_in, right_coord}
 use Rattle.eris_epoch_law.proofs.Frame.{shard_equal, replica_equal, view_equal}
 use Rattle.eris_epoch_law.proofs.FineWorlds.{all_fine}
 use Rattle.eris_epoch_law.proofs.Members.{Each-at, In-left, any_witness}
@@ -105,7 +104,8 @@ module _ (system : EpochSystem) (events : List EpochEvent) where
     where
       named : (j : ℕ) → j < k → (a : ShardId) (b : ReplicaId) → DroppedForATime (member_of system a b) (replica_then system events j a b) (replica_then system events (suc j) a b).part place shard replica view → DroppedThen system events k shard view place replica
       named j lt a b said = record {
-        moment = j; by = lt;
+        moment = j;
+        by = lt;
         dropped = subst (λ z. DroppedForATime (member_of system shard z) (replica_then system events j shard z) (replica_then system events (suc j) shard z).part place shard replica view) (sym said.own)
             (subst (λ z. DroppedForATime (member_of system z b) (replica_then system events j z b) (replica_then system events (suc j) z b).part place shard replica view) (sym said.own_shard) said);
       }

@@ -1,15 +1,13 @@
 -- Runs of one epoch, computed, so that nothing in its laws is vacuous: a place is dropped for good and the number
 -- behind it is settled; and a view begins after a drop, with what the view before it knew, and settles.
-use Rattle.std.specs.Prelude.{◌≡◌, ℕ, Option, Some, None, List, [], ◌∷◌, ◌++◌, map, length, refl}
-use Rattle.eris_base.specs.declared.ids.Epoch.{Epoch}
+use Rattle.std.specs.Prelude.{◌≡◌, ℕ, List, [], ◌∷◌, ◌++◌, length, refl}
 use Rattle.eris_base.specs.declared.ids.ReplicaId.{ReplicaId}
 use Rattle.eris_base.specs.declared.ids.ShardId.{ShardId}
-use Rattle.eris_base.specs.ConfigLimits.{ConfigValue}
 use Rattle.eris_txn.specs.declared.body.Body.TheVariants.{Independent}
 use Rattle.eris_txn.specs.declared.op.Op.TheVariants.{Put}
 use Rattle.eris_log.specs.Entries.{length_of}
 use Rattle.eris_rules.specs.ReplicaStates.{EpochReplica}
-use Rattle.eris_epoch_law.specs.EpochWorlds.{EpochSystem, EpochWorld, EpochEvent, Asks, Delivers, Probes, Suspects, Syncs, Nudges, Idles, moment}
+use Rattle.eris_epoch_law.specs.EpochWorlds.{EpochSystem, EpochWorld, EpochEvent, Asks, Delivers, Suspects, Syncs, moment}
 use Rattle.eris_epoch_law.specs.Reading.{read}
 use Rattle.eris_key_law.proofs.Opened.{all_definitions}
 

@@ -3,8 +3,8 @@
 -- view. In the same view the learner is in both, and it can't have done both. In a higher one the learner's part
 -- has the temporary drop of a replica of that quorum. In a lower one a replica of both had spoken before it
 -- dropped, so it held the packet, or knew it to be dropped when nothing of it was.
-use Rattle.std.proofs.Common.{◌≡◌, ◌⊎◌, inl, inr, ℕ, zero, suc, ◌+◌, ◌*◌, ◌≤◌, ◌<◌, List, [], ◌∷◌, Bool, true, false, not, ◌||◌, ◌==◌, Option, Some, None, is_some, refl, sym, ap, ◌∙◌, subst, arith}
-use Rattle.std.proofs.lemmas.Bool.{or_cases, and_parts, cases_Bool, cases_lt, cases_order, both_ways}
+use Rattle.std.proofs.Common.{◌≡◌, ◌⊎◌, inl, inr, ℕ, suc, ◌+◌, ◌*◌, ◌≤◌, ◌<◌, List, Bool, true, false, not, ◌||◌, Option, Some, None, refl, sym, ap, ◌∙◌, subst, arith}
+use Rattle.std.proofs.lemmas.Bool.{or_cases, cases_Bool, cases_lt, cases_order, both_ways}
 use Rattle.eris_base.specs.declared.ids.Place.{Place}
 use Rattle.eris_base.specs.declared.ids.ReplicaId.{ReplicaId}
 use Rattle.eris_base.specs.declared.ids.ShardId.{ShardId}
@@ -14,9 +14,8 @@ use Rattle.eris_base.specs.StampPlaces.{has_place}
 use Rattle.eris_txn.specs.declared.packet.Packet.{Packet}
 use Rattle.eris_log.specs.declared.entry.Entry.{Entry}
 use Rattle.eris_log.specs.Entries.{entry_of, holder_of, is_dropped, is_txn, is_gap, is_held_and, is_lost, own_place}
-use Rattle.eris_log.specs.Growth.{HasAll}
 use Rattle.eris_log.specs.Held.{packet_at}
-use Rattle.eris_log.specs.Laws.Entries.{any_among-from, any_among-within, all_found-at, HoldsTxn, HoldsTxn-is_txn, is_txn-entry_of, entry_of-txn, holder_of-none}
+use Rattle.eris_log.specs.Laws.Entries.{any_among-from, any_among-within, all_found-at, HoldsTxn-is_txn, is_txn-entry_of, entry_of-txn, holder_of-none}
 use Rattle.eris_log.specs.Laws.Places.{contains_place-places_of}
 use Rattle.eris_log.specs.PartValues.{PartValue}
 use Rattle.eris_log.specs.Places.{contains_place, places_of, any_among}
@@ -26,10 +25,10 @@ use Rattle.eris_epoch_law.specs.Causes.{IsLater}
 use Rattle.eris_epoch_law.specs.EpochWorlds.{EpochSystem, EpochWorld, EpochEvent, moment}
 use Rattle.eris_epoch_law.specs.Fine.{known_in, IsFine}
 use Rattle.eris_epoch_law.specs.Members.{In}
-use Rattle.eris_key_law.specs.Quorums.{IsQuorum, Had, IsBacked, Reached, SpokePast, DroppedThen, IsAgreed}
+use Rattle.eris_key_law.specs.Quorums.{IsQuorum, IsBacked, Reached, SpokePast, DroppedThen, IsAgreed}
 use Rattle.eris_epoch_law.specs.Reading.{replica_then}
 use Rattle.eris_epoch_law.specs.Stamped.{HasNumber, IsStampedIn}
-use Rattle.eris_key_law.proofs.Drops.{place-number, number-place, first_dropped, HasFirst, has_first}
+use Rattle.eris_key_law.proofs.Drops.{number-place, first_dropped, has_first}
 use Rattle.eris_epoch_law.proofs.FineParts.{held_fine}
 use Rattle.eris_epoch_law.proofs.FineWorlds.{all_fine}
 use Rattle.eris_epoch_law.proofs.Moments.{later}

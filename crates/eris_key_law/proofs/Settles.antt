@@ -1,7 +1,7 @@
 -- Settled numbers: where a number is settled at a replica, a quorum spoke past it in some view, and what that view's
 -- learner knew to be dropped then is dropped here. So up to its settled number a replica's entry is dropped exactly
 -- where its packet is dropped by the coordinator, by then or ever after.
-use Rattle.std.proofs.Common.{◌≡◌, ◌⊎◌, inl, inr, ℕ, zero, suc, ◌+◌, ◌*◌, ◌≤◌, ◌<◌, List, [], ◌∷◌, Bool, true, false, not, ◌||◌, ◌==◌, Option, Some, None, is_some, refl, sym, ap, ◌∙◌, subst, arith}
+use Rattle.std.proofs.Common.{◌≡◌, ◌⊎◌, inl, inr, ℕ, zero, suc, ◌+◌, ◌*◌, ◌≤◌, ◌<◌, List, [], ◌∷◌, Bool, true, false, ◌||◌, ◌==◌, Option, Some, None, is_some, refl, sym, ap, ◌∙◌, subst, arith}
 use Rattle.std.specs.List.{list_any}
 use Rattle.std.proofs.lemmas.Bool.{or_cases, or_left, or_right, eqb-true, eqb-false, ne_eqb, cases_eq, cases_Bool, both_ways}
 use Rattle.eris_base.specs.declared.ids.Node.TheVariants.{Replica}
@@ -13,28 +13,28 @@ use Rattle.eris_base.specs.Each.{Each}
 use Rattle.eris_base.specs.Quorums.{has_replica, learner_of, same_replica}
 use Rattle.eris_base.proofs.Each.{Each-weaker}
 use Rattle.eris_txn.specs.declared.packet.Packet.{Packet}
-use Rattle.eris_log.specs.Entries.{covers, is_covered, is_dropped, is_held_and, is_lost, length_of, own_place}
+use Rattle.eris_log.specs.Entries.{covers, is_covered, is_dropped, is_held_and, is_lost, length_of}
 use Rattle.eris_log.specs.Growth.{HasAll, IsWithin}
 use Rattle.eris_log.specs.Held.{packet_at}
 use Rattle.eris_log.specs.Laws.Entries.{NoGap, any_among-within, covers-at, covers-from, covers-within, covers-length_of}
 use Rattle.eris_log.specs.Laws.Parts.{HasAll-refl, IsWithin-refl}
 use Rattle.eris_log.specs.PartValues.{PartValue}
 use Rattle.eris_log.specs.Places.{contains_place, any_among}
-use Rattle.eris_view.specs.AckTallies.{with_ack, settled}
+use Rattle.eris_view.specs.AckTallies.{settled}
 use Rattle.eris_view.specs.Holders.{acks_ascend, holders, IsSharedByQuorum}
 use Rattle.eris_view.proofs.TallyLaws.{each-with_ack, acks_ascend-with_ack, settled_is_shared_by_quorum, each_holder_has}
-use Rattle.eris_rules.specs.EpochMessages.{EpochSend, Exchanges, Ack, Settled}
-use Rattle.eris_rules.specs.EpochReplicas.{EpochInput, Get}
+use Rattle.eris_rules.specs.EpochMessages.{Exchanges, Ack, Settled}
+use Rattle.eris_rules.specs.EpochReplicas.{EpochInput}
 use Rattle.eris_rules.specs.ReplicaStates.{EpochReplica, fresh, is_normal, is_learner}
 use Rattle.eris_epoch_law.specs.Causes.{Cause, ByReplica, ByCoordinator, BySequencer, Acknowledged, ToldSettled}
 use Rattle.eris_epoch_law.specs.EpochWorlds.{EpochSystem, EpochWorld, EpochEvent, member_of, moment}
 use Rattle.eris_epoch_law.specs.Members.{In}
-use Rattle.eris_key_law.specs.Quorums.{IsQuorum, Reached, SpokePast, IsSettledBy}
+use Rattle.eris_key_law.specs.Quorums.{Reached, SpokePast, IsSettledBy}
 use Rattle.eris_epoch_law.specs.Reading.{replica_then}
-use Rattle.eris_epoch_law.specs.Stamped.{HasNumber, IsStampedIn}
+use Rattle.eris_epoch_law.specs.Stamped.{HasNumber}
 use Rattle.eris_epoch_law.proofs.Frame.{replica_equal}
 use Rattle.eris_epoch_law.proofs.Grow.{NoGap-less, NoGap-within}
-use Rattle.eris_key_law.proofs.KeyLemma.{no_gap, grows, is_packet, own_place-packet, dropped_means, dropped_by, key}
+use Rattle.eris_key_law.proofs.KeyLemma.{no_gap, grows, is_packet, dropped_means, dropped_by, key}
 use Rattle.eris_epoch_law.proofs.Leaves.{AcksFrom}
 use Rattle.eris_epoch_law.proofs.Members.{Each-at}
 use Rattle.eris_epoch_law.proofs.Moments.{cause}
@@ -89,7 +89,9 @@ module _ (system : EpochSystem) (events : List EpochEvent) where
       named j lt a b range home said =
           let same = same_replica_then system events (suc j) s a x b home said.own in
           record {
-            moment = suc j; by = omega arith; there = subst (λ (z : ReplicaId). z.0 < 2 * system.config.f + 1) (sym said.own) range;
+            moment = suc j;
+            by = omega arith;
+            there = subst (λ (z : ReplicaId). z.0 < 2 * system.config.f + 1) (sym said.own) range;
             in_view = ap (λ (state : EpochReplica). state.view) same ∙ sym said.in_view;
             normal = ap (λ (state : EpochReplica). is_normal state.status) same ∙ said.normal;
             whole = subst (λ (state : EpochReplica). NoGap state.part length) (sym same) said.whole;
@@ -124,7 +126,7 @@ module _ (system : EpochSystem) (events : List EpochEvent) where
           → ToldSettled (member_of system a b) (then (suc j) a b).view (then (suc j) a b).status (then (suc j) a b).part (then (suc j) a b).settled v number places → IsSettledBy system events k s number part
       named j lt a b home said =
           let q : IsSettledBy system events (suc j) a number (then (suc j) a b).part =
-              subst (λ n. IsSettledBy system events (suc j) a n (then (suc j) a b).part) (sym said.is_settled) ((ih (suc j) a b (omega arith)).settled (subst (λ n. 0 < n) said.is_settled some)) in
+          subst (λ n. IsSettledBy system events (suc j) a n (then (suc j) a b).part) (sym said.is_settled) ((ih (suc j) a b (omega arith)).settled (subst (λ n. 0 < n) said.is_settled some)) in
           let p : IsSettledBy system events (suc j) s number (then (suc j) a b).part = subst (λ z. IsSettledBy system events (suc j) z number (then (suc j) a b).part) (sym home) q in
           record {
             view = p.view;
@@ -159,7 +161,8 @@ module _ (system : EpochSystem) (events : List EpochEvent) where
     -- its state is the learner's
     abbrev at_learner : shared ≤ length_of (then k s r).part → Reached system events k s (then k s r).view shared (learner_of (then k s r).view system.config.f)
     at_learner le = record {
-      moment = k; by = omega arith;
+      moment = k;
+      by = omega arith;
       there = subst (λ (x : ReplicaId). x.0 < 2 * system.config.f + 1) own_learner range;
       in_view = ap (λ x. (then k s x).view) (sym own_learner);
       normal = ap (λ x. is_normal (then k s x).status) (sym own_learner) ∙ normal;
@@ -204,7 +207,8 @@ module _ (system : EpochSystem) (events : List EpochEvent) where
   acks_more : (k l : ℕ) (s : ShardId) (r : ReplicaId) (v : View) (acks : List (ReplicaId × ℕ)) → k ≤ l → AreAcksSound k s r v acks → AreAcksSound l s r v acks
   acks_more k l s r v acks le h = record {
     reached = Each-weaker (λ ack. Reached system events k s v ack.1 ack.0) (λ ack. Reached system events l s v ack.1 ack.0) (λ ack g. reached_more k l s v ack.1 ack.1 ack.0 le (omega arith) g) acks h.reached;
-    others = h.others; ascend = h.ascend;
+    others = h.others;
+    ascend = h.ascend;
   }
 
   acks_turn : (k : ℕ) (s : ShardId) (r : ReplicaId) (input : EpochInput) (acks : List (ReplicaId × ℕ)) → IsSettledSound k s r → Came (at k) s r input
@@ -259,9 +263,11 @@ module _ (system : EpochSystem) (events : List EpochEvent) where
           let h = ih k s r (omega arith) in
           let before : AreAcksSound k s r (then k s r).view (then k s r).acks = record { reached = h.acks; others = h.others; ascend = h.ascend } in
           let after : AreAcksSound (suc k) s r (then (suc k) s r).view (then (suc k) s r).acks =
-                  subst (λ (state : EpochReplica). AreAcksSound (suc k) s r state.view state.acks) (sym e) (acks_more k (suc k) s r _ _ (omega arith) before) in
+          subst (λ (state : EpochReplica). AreAcksSound (suc k) s r state.view state.acks) (sym e) (acks_more k (suc k) s r _ _ (omega arith) before) in
           record {
-            acks = after.reached; others = after.others; ascend = after.ascend;
+            acks = after.reached;
+            others = after.others;
+            ascend = after.ascend;
             settled = subst (λ (state : EpochReplica). 0 < state.settled → IsSettledBy system events (suc k) s state.settled state.part) (sym e) (λ some. settled_more k (suc k) s _ _ _ (omega arith) (IsWithin-refl _) (h.settled some));
           }
 

@@ -1,6 +1,6 @@
 -- How a step changes a replica's view, its notes, its acknowledgements and its settled number: the skeleton of the
 -- view change and of settling. The arguments on views and on settled numbers use these few cases only.
-use Rattle.std.proofs.Common.{◌≡◌, ◌⊎◌, inl, inr, ℕ, ◌+◌, ◌<◌, ◌≤◌, List, [], ◌∷◌, Bool, true, false, not, ◌&&◌, Option, Some, None, refl, sym, ap, ◌∙◌, subst}
+use Rattle.std.proofs.Common.{◌≡◌, ◌⊎◌, inl, inr, ℕ, ◌+◌, List, [], true, false, not, ◌&&◌, Option, Some, None, refl, ap, ◌∙◌}
 use Rattle.std.proofs.lemmas.Bool.{cond_both, or_right}
 use Rattle.eris_base.specs.declared.ids.Place.{Place}
 use Rattle.eris_base.specs.declared.ids.ReplicaId.{ReplicaId}
@@ -120,7 +120,8 @@ module _ (me : Member) (state : EpochReplica) where
   turned_leaf _ _ (Hears view number places) = record { turned = stays _ _ }
   turned_leaf _ _ (Learns view number places e covered lt) = record {
     turned = record {
-      turn = Same refl refl refl; acks = inr (refl, inl refl);
+      turn = Same refl refl refl;
+      acks = inr (refl, inl refl);
       settled = inr (inr (record { places = places; came = ap (λ v. Get (Exchanges (Settled v number places))) e; covered = covered; has = has_all state.part places }));
     };
   }

@@ -1,8 +1,7 @@
 -- A replica that takes part in a view above 0 has in its part all that a quorum of its shard had in that view.
 -- This is why a view's learner can't have missed what f+1 replicas did in a lower view.
-use Rattle.std.proofs.Common.{◌≡◌, ◌⊎◌, inl, inr, ℕ, zero, suc, ◌+◌, ◌*◌, ◌≤◌, ◌<◌, List, [], ◌∷◌, Bool, true, false, ◌||◌, ◌==◌, Option, Some, None, refl, sym, ap, ◌∙◌, subst, arith}
+use Rattle.std.proofs.Common.{◌≡◌, ◌⊎◌, inl, inr, ℕ, zero, suc, ◌+◌, ◌*◌, ◌≤◌, ◌<◌, List, [], ◌∷◌, true, ◌==◌, Some, refl, sym, ap, ◌∙◌, subst, arith}
 use Rattle.std.proofs.lemmas.Bool.{or_cases, eqb-true}
-use Rattle.std.specs.Prelude.{fold}
 use Rattle.eris_base.specs.declared.ids.Node.TheVariants.{Replica}
 use Rattle.eris_base.specs.declared.ids.ReplicaId.{ReplicaId}
 use Rattle.eris_base.specs.declared.ids.ShardId.{ShardId}
@@ -10,21 +9,20 @@ use Rattle.eris_base.specs.declared.ids.View.{View}
 use Rattle.eris_base.specs.Each.{Each}
 use Rattle.eris_base.specs.Quorums.{has_replica}
 use Rattle.eris_base.proofs.Each.{Each-weaker}
-use Rattle.eris_txn.specs.declared.packet.Packet.{Packet}
 use Rattle.eris_log.specs.Growth.{IsWithin, Agree, OfOneShard}
-use Rattle.eris_log.specs.Laws.Parts.{IsWithin-refl, IsWithin-trans, IsWithin-merge, IsWithin-merge_second, IsUnion-merge}
+use Rattle.eris_log.specs.Laws.Parts.{IsWithin-refl, IsWithin-trans, IsWithin-merge_second, IsUnion-merge}
 use Rattle.eris_log.specs.PartValues.{PartValue}
 use Rattle.eris_log.specs.Parts.{merge}
 use Rattle.eris_view.specs.ViewTallies.{is_ready, replicas_of, union_of}
-use Rattle.eris_rules.specs.EpochMessages.{EpochSend, Exchanges, ViewChange, StartView}
-use Rattle.eris_rules.specs.EpochReplicas.{EpochInput, Get, Suspect, epoch_step}
-use Rattle.eris_rules.specs.ReplicaStates.{Member, EpochReplica, is_normal, fresh}
+use Rattle.eris_rules.specs.EpochMessages.{Exchanges, ViewChange, StartView}
+use Rattle.eris_rules.specs.EpochReplicas.{EpochInput, epoch_step}
+use Rattle.eris_rules.specs.ReplicaStates.{EpochReplica, is_normal, fresh}
 use Rattle.eris_rules.specs.Worlds.{replica_at, with_replica}
 use Rattle.eris_epoch_law.specs.Causes.{Cause, ByReplica, ByCoordinator, BySequencer, ShowedPart, BeganView}
-use Rattle.eris_epoch_law.specs.EpochWorlds.{EpochSystem, EpochWorld, EpochEvent, member_of, first_epoch_world, after_stamping, after_replica, after_coordinator, moment}
-use Rattle.eris_epoch_law.specs.Fine.{KnownLists, known_in, IsFine, IsFineNote}
+use Rattle.eris_epoch_law.specs.EpochWorlds.{EpochSystem, EpochWorld, EpochEvent, member_of, after_stamping, after_replica, after_coordinator, moment}
+use Rattle.eris_epoch_law.specs.Fine.{known_in, IsFine, IsFineNote}
 use Rattle.eris_epoch_law.specs.Members.{In}
-use Rattle.eris_key_law.specs.Quorums.{IsQuorum, Had, IsBacked}
+use Rattle.eris_key_law.specs.Quorums.{Had, IsBacked}
 use Rattle.eris_epoch_law.specs.Reading.{read, replica_then}
 use Rattle.eris_epoch_law.specs.Stamped.{IsStampingOf}
 use Rattle.eris_epoch_law.proofs.FineParts.{held_fine, fine_merge}
@@ -137,7 +135,9 @@ module _ (system : EpochSystem) (events : List EpochEvent) where
       named j lt a b range home said =
           let same = same_replica_then (suc j) s a x b home said.own in
           record {
-            moment = suc j; by = omega arith; there = subst (λ (z : ReplicaId). z.0 < 2 * system.config.f + 1) (sym said.own) range;
+            moment = suc j;
+            by = omega arith;
+            there = subst (λ (z : ReplicaId). z.0 < 2 * system.config.f + 1) (sym said.own) range;
             in_view = ap (λ (state : EpochReplica). state.view) same ∙ sym said.in_view;
             within = subst (λ p. IsWithin p part) (said.same ∙ sym (ap (λ (state : EpochReplica). state.part) same)) (IsWithin-refl part);
           }

@@ -4,4 +4,6 @@
 
 mod law;
 
-pub use law::{drops_are_agreed, settled_stays, spoken_past_is_kept, views_are_backed, what_is_said_is_so};
+pub use law::{
+    drops_are_agreed, settled_stays, spoken_past_is_kept, views_are_backed, what_is_said_is_so,
+};
