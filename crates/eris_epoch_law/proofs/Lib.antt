@@ -1,0 +1,11 @@
+pub mod Members
+pub mod Frame
+pub mod Leaves
+pub mod Grow
+pub mod Coords
+pub mod Moves
+pub mod Moments
+pub mod StampList
+pub mod FineParts
+pub mod FineWorlds
+pub mod OfEpoch
