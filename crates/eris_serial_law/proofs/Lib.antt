@@ -1,0 +1,12 @@
+pub mod AtShard
+pub mod Parts
+pub mod LineSteps
+pub mod Sound
+pub mod ShardByShard
+pub mod OneMap
+pub mod OrderOrigins
+pub mod WellFormedOrder
+pub mod OrderLines
+pub mod FirstPackets
+pub mod Rules
+pub mod CutOrigins
