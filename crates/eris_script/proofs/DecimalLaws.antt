@@ -60,3 +60,7 @@ read_decimal_only limit word n small read =
     let spelled : decimal (digits_value 10 word) ≡ word =
     decimal-digits_value digits_model word tests.0 first.0 first.1 (omega arith) in
     (rw (← value.1) (sym spelled), rw value.1 at within)
+
+-- a written number has digits alone
+pub digits_of_decimal : (n : ℕ) → n < 2 ^ 64 → are_digits (decimal n) ≡ true
+digits_of_decimal n small = digits_decimal digits_model n small

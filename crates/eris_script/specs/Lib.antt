@@ -1,7 +1,15 @@
+pub mod Cuts
 pub mod Decimal
+pub mod EventText
+pub mod Fields
+pub mod FixedWords
+pub mod Forms
 pub mod HistoryText
+pub mod LineForms
+pub mod OpForms
 pub mod OpText
 pub mod OrderText
+pub mod PlanForms
 pub mod PlanText
 pub mod Reasons
 pub mod ReplicaText

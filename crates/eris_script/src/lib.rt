@@ -2,14 +2,22 @@
 //! reasons for which a line is refused, and the report.
 #![tactic(auto)]
 
+mod clause;
+mod cut;
 mod event;
+mod fields;
+mod fixed_words;
 mod header;
+mod hex;
 mod history_text;
 mod line;
 mod line_fault;
+mod line_words;
 mod number;
+mod op_line;
 mod op_text;
 mod order_text;
+mod plan_line;
 mod plan_text;
 mod reason;
 mod replica_text;
