@@ -1,0 +1,4 @@
+pub mod ClientRuns
+pub mod Counts
+pub mod Courses
+pub mod Rests
