@@ -5,3 +5,6 @@ pub mod Completing
 pub mod Fresh
 pub mod Events
 pub mod Standing
+pub mod Resting
+pub mod Asking
+pub mod Numbering

@@ -171,11 +171,11 @@ module _ (me : ClientIdentity) (inputs : List ClientInput) (number : ℕ) where
       })
 
   -- the events of an id that is unknown, and of one that stands
-  none_yet : (id : TxnId) (found : Option Transaction) → transaction_at now id ≡ None → found ≡ transaction_at now id → StandsAt me inputs number id (events_of id history) found → events_of id history ≡ []
+  pub none_yet : (id : TxnId) (found : Option Transaction) → transaction_at now id ≡ None → found ≡ transaction_at now id → StandsAt me inputs number id (events_of id history) found → events_of id history ≡ []
   none_yet id None none is stands = stands
   none_yet id (Some transaction) none is stands = let clash : Some transaction ≡ None = is ∙ none in absurd (cc)
 
-  of_known : (id : TxnId) (transaction : Transaction) → transaction_at now id ≡ Some transaction → Known id → Stands me inputs number id (events_of id history) transaction
+  pub of_known : (id : TxnId) (transaction : Transaction) → transaction_at now id ≡ Some transaction → Known id → Stands me inputs number id (events_of id history) transaction
   of_known id transaction is known = subst (StandsAt me inputs number id (events_of id history)) is known
 
   -- one more event behind those of an id

@@ -120,3 +120,11 @@ pub record Stands (me : ClientIdentity) (inputs : List ClientInput) (number : �
 abbrev pub StandsAt : ClientIdentity → List ClientInput → ℕ → TxnId → List HistoryEvent → Option Transaction → Type 0
 StandsAt me inputs number id events None = events ≡ []
 StandsAt me inputs number id events (Some transaction) = Stands me inputs number id events transaction
+
+-- the ids that were submitted, in order
+abbrev pub submitted_ids : List HistoryEvent → List TxnId
+submitted_ids [] = []
+submitted_ids (Submit id txn ∷ history) = id ∷ submitted_ids history
+submitted_ids (Read id values ∷ history) = submitted_ids history
+submitted_ids (Answered id answer ∷ history) = submitted_ids history
+submitted_ids (Told asker id answer ∷ history) = submitted_ids history

@@ -22,10 +22,13 @@ use Rattle.eris_rules.specs.ClientStates.{ClientIdentity, next_id}
 use Rattle.eris_serial.specs.Joining.{IsJoined}
 use Rattle.eris_serial.specs.Shares.{OneForEach}
 use Rattle.eris_serial.specs.Transactions.{takes_part}
-use Rattle.eris_client_law.specs.ClientRuns.{ClientInput, WasCalledToAbort, history_to, moment, Submits}
+use Rattle.eris_client_law.specs.ClientRuns.{ClientInput, WasCalledToAbort, history_to, moment, step_at, Submits}
 use Rattle.eris_client_law.specs.Counts.{CountedOn}
 use Rattle.eris_client_law.specs.Courses.{IsOfAnother, IsOwn, events_of}
-use Rattle.std.specs.Prelude.{slice_get, Some}
+use Rattle.std.specs.Prelude.{◌≤◌, slice_get, Some}
+use Rattle.eris_msg.specs.declared.outgoing.Outgoing.{Outgoing}
+use Rattle.eris_rules.specs.Clients.{ask_for}
+use Rattle.eris_serial.specs.Evidence.{IsIn}
 
 -- a whole transaction's answer: each shard that takes part is counted with what it gave, and the answer is joined of that
 pub record WholeRests (me : ClientIdentity) (inputs : List ClientInput) (number : ℕ) (id : TxnId) (answer : Answer) : Type 0 where
@@ -80,7 +83,7 @@ pub record ToldRests (me : ClientIdentity) (inputs : List ClientInput) (number :
   pub asker_is : asker ≡ me.client
   pub keys : List Key
   pub another : IsOfAnother me id
-  pub called : WasCalledToAbort inputs number id keys
+  pub called : WasCalledToAbort inputs (suc number) id keys
   pub first : events_of id (history_to me inputs number) ≡ []
   pub rests : OutcomeRests me inputs number id (Abort keys) outcome
 
@@ -129,3 +132,24 @@ pub data AskRests (me : ClientIdentity) (inputs : List ClientInput) (number : �
   AsksCommit : CommitRests me inputs number id body → AskRests me inputs number id body
   AsksAbort : OwnAbortRests me inputs number id body → AskRests me inputs number id body
   AsksAnothers : (keys : List Key) → IsOfAnother me id → WasCalledToAbort inputs number id keys → body ≡ Abort keys → AskRests me inputs number id body
+
+-- a message that the client sent is an Ask of its own, of a body that rests so at this moment
+pub record IsAsk (me : ClientIdentity) (inputs : List ClientInput) (number : ℕ) (send : Outgoing) : Type 0 where
+  pub id : TxnId
+  pub body : Body
+  pub is : send ≡ ask_for me id body
+  pub rests : AskRests me inputs number id body
+
+-- an event of the history came in a step, and rests on what was there then
+pub record HappenedSo (me : ClientIdentity) (inputs : List ClientInput) (number : ℕ) (event : HistoryEvent) : Type 0 where
+  pub at : ℕ
+  pub before : suc at ≤ number
+  pub happened : (step_at me inputs at).event ≡ Some event
+  pub rests : EventRests me inputs at event
+
+-- a message that the client sent came in a step
+pub record SentSo (me : ClientIdentity) (inputs : List ClientInput) (number : ℕ) (send : Outgoing) : Type 0 where
+  pub at : ℕ
+  pub before : suc at ≤ number
+  pub sent : IsIn send (step_at me inputs at).sends
+  pub ask : IsAsk me inputs (suc at) send
