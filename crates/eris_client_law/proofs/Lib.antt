@@ -8,3 +8,5 @@ pub mod Standing
 pub mod Resting
 pub mod Asking
 pub mod Numbering
+pub mod Growing
+pub mod Origins
