@@ -218,3 +218,9 @@ heard me inputs number id before message _ came votes counted (Lates shard repli
           fits = parts.1;
         });
     }
+
+-- the test of a vote that fits, written out
+pub fitting_test : (me : ClientIdentity) (body : Body) (vote : Vote) → vote_fits me.config.f body vote ≡ true
+    → (has_shard (participants_of body) vote.shard && (names_exactly vote.stamp (participants_of body) && role_fits me.config.f body vote vote.answer)) ≡ true
+unfolding vote_fits
+fitting_test me body vote h = h

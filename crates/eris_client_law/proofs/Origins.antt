@@ -1,7 +1,8 @@
 -- An ask's body in the words of evidence; and what a counted shard's messages say. Used where evidence is made.
 use Rattle.std.proofs.Common.{◌≡◌, ℕ, Bool, true, false, ◌&&◌, ◌==◌, Option, Some, None, unwrap_or, List, [], ◌∷◌, map, refl, ap, sym, ◌∙◌, subst, inl, inr}
 use Rattle.std.specs.Prelude.{◌⊎◌, IsTrue, is_some}
-use Rattle.std.proofs.lemmas.Bool.{and_parts}
+use Rattle.std.proofs.lemmas.Bool.{and_parts, both_ways, eq-eqb}
+use Rattle.eris_base.specs.declared.ids.ClientId.{ClientId}
 use Rattle.eris_base.specs.declared.ids.Phase.{Phase}
 use Rattle.eris_base.specs.declared.ids.ShardId.{ShardId}
 use Rattle.eris_base.specs.declared.ids.TxnId.{TxnId}
@@ -24,7 +25,7 @@ use Rattle.eris_serial.specs.Evidence.{BodyOrigin, HasCommitOrigin, IsIn}
 use Rattle.eris_serial.proofs.Runnable.{Each-in}
 use Rattle.eris_client_law.specs.ClientRuns.{ClientInput, history_to}
 use Rattle.eris_client_law.specs.Counts.{CameFor, CountedByVotes, IsVoteFor, IsVoteOf, message_of, message_with}
-use Rattle.eris_client_law.specs.Courses.{events_of}
+use Rattle.eris_client_law.specs.Courses.{IsOwn, events_of}
 use Rattle.eris_client_law.specs.Rests.{AskRests, AsksAbort, AsksAnothers, AsksCommit, AsksPrelim, AsksWhole}
 use Rattle.eris_client_law.proofs.Events.{event_there, txn_by_events}
 
@@ -67,6 +68,14 @@ module _ (me : ClientIdentity) (inputs : List ClientInput) (number : ℕ) (id : 
       })
   commit_origin body (AsksAbort rests) = subst (HasCommitOrigin history id) (sym rests.body_is) tt
   commit_origin body (AsksAnothers keys another called is) = subst (HasCommitOrigin history id) (sym is) tt
+
+-- AN OWN ID IS SUBMITTED before an Ask of it is sent
+pub ask_submitted : (me : ClientIdentity) (inputs : List ClientInput) (number : ℕ) (id : TxnId) (body : Body) → AskRests me inputs number id body → IsOwn me id → is_submitted (history_to me inputs number) id ≡ true
+ask_submitted me inputs number id body (AsksWhole operations own are is) _ = submitted me inputs number id (Whole operations) [] are
+ask_submitted me inputs number id body (AsksPrelim plan own are is) _ = submitted me inputs number id (General plan) [] are
+ask_submitted me inputs number id body (AsksCommit rests) _ = submitted me inputs number id (General rests.plan) (Read id rests.values ∷ []) rests.events_are
+ask_submitted me inputs number id body (AsksAbort rests) _ = submitted me inputs number id (General rests.plan) (Read id rests.values ∷ []) rests.events_are
+ask_submitted me inputs number id body (AsksAnothers keys another called is) own = absurd (both_ways _ another (eq-eqb id.client.0 me.client.0 (ap (λ (c : ClientId). c.0) own)))
 
 -- ---- the messages behind a counted shard
 module _ (me : ClientIdentity) (inputs : List ClientInput) (number : ℕ) (id : TxnId) (body : Body) where

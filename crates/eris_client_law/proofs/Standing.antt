@@ -20,7 +20,7 @@ use Rattle.eris_txn.specs.declared.op.Op.{Op}
 use Rattle.eris_txn.specs.declared.op.OpAnswer.{OpAnswer}
 use Rattle.eris_txn.specs.declared.txn.Txn.{Txn}
 use Rattle.eris_txn.specs.declared.txn.Txn.TheVariants.{Whole, General}
-use Rattle.eris_txn.specs.Bodies.{participants_of}
+use Rattle.eris_txn.specs.Bodies.{any_on, keys_of, participants_of}
 use Rattle.eris_txn.specs.Operations.{key_of}
 use Rattle.eris_txn.specs.PlanValues.{PlanValue}
 use Rattle.eris_txn.specs.Plans.{locks_of, value_in}
@@ -38,7 +38,7 @@ use Rattle.eris_serial.specs.Shares.{OneForEach}
 use Rattle.eris_client_law.specs.ClientRuns.{AbortsOthers, Aborts, ClientInput, Gets, Submits, WasCalledToAbort, history_to, moment, perhaps}
 use Rattle.eris_client_law.specs.Counts.{CameFor, CountedOn, IsVoteFor}
 use Rattle.eris_client_law.specs.Courses.{IsAborting, IsOutcome, IsSoFar, Stands, StandsAt, events_of, id_of}
-use Rattle.eris_client_law.proofs.Completing.{ops_joined, values_joined}
+use Rattle.eris_client_law.proofs.Completing.{counted_there, ops_joined, values_joined}
 use Rattle.eris_client_law.proofs.Counting.{StillOpen, counted_later, heard, vote_later}
 use Rattle.eris_client_law.proofs.Entries.{found_other, found_put}
 use Rattle.eris_client_law.proofs.Events.{IsEventOf, events-other, events-own}
@@ -301,3 +301,25 @@ module _ (me : ClientIdentity) (inputs : List ClientInput) (others : AbortsOther
   unfolding moment history_to first_client transaction_at
   stands_at zero id = refl
   stands_at (suc number) id = stands_perhaps number (slice_get inputs number) refl (stands_at number) id
+
+  -- ---- of a transaction that it has
+  pub known_stands : (number : ℕ) (id : TxnId) (transaction : Transaction) → transaction_at (moment me inputs number) id ≡ Some transaction
+      → Stands me inputs number id (events_of id (history_to me inputs number)) transaction
+  known_stands number id transaction is = of_known me inputs number id transaction is (stands_at number id)
+
+  -- every vote rests on a message that came
+  pub known_votes : (number : ℕ) (id : TxnId) (transaction : Transaction) → transaction_at (moment me inputs number) id ≡ Some transaction
+      → Each (IsVoteFor me inputs number id (body_of transaction.course)) transaction.votes
+  known_votes number id transaction is = (known_stands number id transaction is).votes
+
+  -- and every counted shard
+  pub known_counted : (number : ℕ) (id : TxnId) (transaction : Transaction) → transaction_at (moment me inputs number) id ≡ Some transaction
+      → Each (λ pair. CountedOn me inputs number id (body_of transaction.course) pair.0 pair.1) transaction.counted
+  known_counted number id transaction is = (known_stands number id transaction is).counted
+
+  -- where it is complete, every shard of its keys is counted
+  pub known_whole : (number : ℕ) (id : TxnId) (transaction : Transaction) → transaction_at (moment me inputs number) id ≡ Some transaction → is_complete transaction ≡ true
+      → (shard : ShardId) → any_on (keys_of (body_of transaction.course)) shard ≡ true → (answer : Answer) × CountedOn me inputs number id (body_of transaction.course) shard answer
+  known_whole number id transaction is whole shard part =
+      let there = counted_there me inputs number id transaction.counted (body_of transaction.course) (known_counted number id transaction is) (whole_half transaction transaction.course refl whole) shard part in
+      (there.0, there.2)
