@@ -10,3 +10,4 @@ pub mod Asking
 pub mod Numbering
 pub mod Growing
 pub mod Origins
+mod Examples
