@@ -11,3 +11,4 @@ pub mod Numbering
 pub mod Growing
 pub mod Origins
 mod Examples
+pub mod Evident
