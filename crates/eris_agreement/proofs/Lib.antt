@@ -1,0 +1,4 @@
+pub mod Moments
+pub mod Cells
+pub mod ReplicaLeaves
+pub mod CoordLeaves

@@ -1,0 +1,2 @@
+pub mod WorldMoments
+pub mod Servers
