@@ -2,3 +2,5 @@ pub mod Moments
 pub mod Cells
 pub mod ReplicaLeaves
 pub mod CoordLeaves
+pub mod ClientAsks
+pub mod Moves
