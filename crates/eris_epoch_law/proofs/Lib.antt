@@ -1,3 +1,9 @@
 pub mod Members
 pub mod Frame
 pub mod Leaves
+pub mod Grow
+pub mod Coords
+pub mod Moves
+pub mod Moments
+pub mod StampList
+pub mod FineParts

@@ -3,7 +3,7 @@
 use Rattle.std.proofs.Common.{◌≡◌, ◌⊎◌, inl, inr, ℕ, zero, suc, Bool, true, false, List, [], ◌∷◌, ◌++◌, map, cond, Option, Some, None, refl, ap, sym, ◌∙◌, subst}
 use Rattle.std.proofs.lemmas.Bool.{or_cases, or_left, or_right}
 use Rattle.std.specs.List.{AllByRecursion, filter, flat_map, list_any}
-use Rattle.std.specs.Prelude.{slice_get}
+use Rattle.std.specs.Prelude.{find, slice_get}
 use Rattle.eris_base.specs.Each.{Each}
 use Rattle.eris_base.specs.declared.ids.Node.{Node}
 use Rattle.eris_base.specs.declared.ids.Place.{Place}
@@ -53,6 +53,33 @@ In-filter test (x ∷ xs) y i = by_test (test x) i (In-filter test xs y)
     by_test true (inl e) rest = inl e
     by_test true (inr j) rest = inr (rest j)
     by_test false j rest = inr (rest j)
+
+pub In-filtered : {X : Type 0} (test : X → Bool) (xs : List X) (y : X) → In y (filter test xs) → In y xs × (test y ≡ true)
+In-filtered test [] y i = absurd i
+In-filtered test (x ∷ xs) y i = by_test (test x) refl i (In-filtered test xs y)
+  where
+    by_test : (b : Bool) → test x ≡ b → In y (cond b (x ∷ filter test xs) (filter test xs)) → (In y (filter test xs) → In y xs × (test y ≡ true)) → ((y ≡ x) ⊎ In y xs) × (test y ≡ true)
+    by_test true h (inl e) rest = (inl e, ap test e ∙ h)
+    by_test true h (inr j) rest = (inr (rest j).0, (rest j).1)
+    by_test false h j rest = (inr (rest j).0, (rest j).1)
+
+-- what a search finds, and what it says where it finds nothing
+pub find-In : {X : Type 0} (test : X → Bool) (xs : List X) (y : X) → find test xs ≡ Some y → In y xs × (test y ≡ true)
+find-In test [] y h = absurd (cc)
+find-In test (x ∷ xs) y h = by_test (test x) refl h (find-In test xs y)
+  where
+    by_test : (b : Bool) → test x ≡ b → cond b (Some x) (find test xs) ≡ Some y → (find test xs ≡ Some y → In y xs × (test y ≡ true)) → ((y ≡ x) ⊎ In y xs) × (test y ≡ true)
+    by_test true e k rest = let same : x ≡ y = cc in (inl (sym same), ap test (sym same) ∙ e)
+    by_test false e k rest = (inr (rest k).0, (rest k).1)
+
+pub find-none : {X : Type 0} (test : X → Bool) (xs : List X) (y : X) → find test xs ≡ None → In y xs → test y ≡ false
+find-none test [] y h i = absurd i
+find-none test (x ∷ xs) y h i = by_test (test x) refl h i (find-none test xs y)
+  where
+    by_test : (b : Bool) → test x ≡ b → cond b (Some x) (find test xs) ≡ None → (y ≡ x) ⊎ In y xs → (find test xs ≡ None → In y xs → test y ≡ false) → test y ≡ false
+    by_test true e k j rest = absurd (cc)
+    by_test false e k (inl same) rest = ap test same ∙ e
+    by_test false e k (inr j) rest = rest k j
 
 -- what passes a test somewhere
 pub any_witness : {X : Type 0} (test : X → Bool) (xs : List X) → list_any test xs ≡ true → (x : X) × In x xs × (test x ≡ true)

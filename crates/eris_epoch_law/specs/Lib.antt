@@ -1,3 +1,6 @@
 pub mod Members
 pub mod EpochWorlds
 pub mod Reading
+pub mod Causes
+pub mod Stamped
+pub mod Fine
