@@ -7,3 +7,6 @@ pub mod Moves
 pub mod Moments
 pub mod StampList
 pub mod FineParts
+pub mod FineWorlds
+pub mod Turns
+pub mod Views

@@ -4,3 +4,4 @@ pub mod Reading
 pub mod Causes
 pub mod Stamped
 pub mod Fine
+pub mod Quorums
