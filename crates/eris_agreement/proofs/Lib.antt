@@ -4,3 +4,4 @@ pub mod ReplicaLeaves
 pub mod CoordLeaves
 pub mod ClientAsks
 pub mod Moves
+pub mod EpochGrowth
