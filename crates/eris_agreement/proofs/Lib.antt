@@ -5,3 +5,4 @@ pub mod CoordLeaves
 pub mod ClientAsks
 pub mod Moves
 pub mod EpochGrowth
+pub mod ClosedLaws

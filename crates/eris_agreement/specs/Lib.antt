@@ -1,2 +1,3 @@
 pub mod WorldMoments
 pub mod Servers
+pub mod ClosedBelow
