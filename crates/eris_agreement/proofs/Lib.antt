@@ -6,3 +6,5 @@ pub mod ClientAsks
 pub mod Moves
 pub mod EpochGrowth
 pub mod ClosedLaws
+pub mod InnerLaws
+pub mod EpochInvariants
