@@ -166,7 +166,7 @@ module _ (epoch : Epoch) where
       perm = record { at = λ other k. elim (or_cases _ _ (sym (contains_place-with_places part.perm places other) ∙ k)) [ inl old ↦ f.perm.at other old | inr new ↦ h.dropped.at other new ] };
     }
 
-    fine_merge : (some other : PartValue) → Fine some → Fine other → other.shard ≡ some.shard → Fine (merge some other)
+    pub fine_merge : (some other : PartValue) → Fine some → Fine other → other.shard ≡ some.shard → Fine (merge some other)
     fine_merge some other f g own =
         let union = IsUnion-merge some other in
         record {
@@ -178,7 +178,7 @@ module _ (epoch : Epoch) where
           perm = record { at = λ place k. elim (or_cases _ _ (sym (union.perm.at place) ∙ k)) [ inl one ↦ f.perm.at place one | inr two ↦ g.perm.at place two ] };
         }
 
-    fine_union : (noted : List (ReplicaId × PartValue)) (part : PartValue) (shard : ShardId) → Fine part → part.shard ≡ shard → Each (IsFineNote epoch known shard) noted → Fine (union_of noted part) × ((union_of noted part).shard ≡ shard)
+    pub fine_union : (noted : List (ReplicaId × PartValue)) (part : PartValue) (shard : ShardId) → Fine part → part.shard ≡ shard → Each (IsFineNote epoch known shard) noted → Fine (union_of noted part) × ((union_of noted part).shard ≡ shard)
     unfolding union_of
     fine_union [] part shard f own h = (f, own)
     fine_union (one ∷ noted) part shard f own h =

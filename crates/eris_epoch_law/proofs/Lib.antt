@@ -10,3 +10,5 @@ pub mod FineParts
 pub mod FineWorlds
 pub mod Turns
 pub mod Views
+pub mod Drops
+pub mod KeyLemma

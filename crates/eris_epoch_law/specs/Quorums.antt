@@ -1,5 +1,5 @@
 -- What a quorum of a shard did: each of f+1 different replicas, at a moment of its own.
-use Rattle.std.specs.Prelude.{◌≡◌, ◌≤◌, ◌<◌, ◌+◌, ◌*◌, ℕ, true, false, List}
+use Rattle.std.specs.Prelude.{◌≡◌, ◌≤◌, ◌<◌, ◌+◌, ◌*◌, ℕ, suc, true, false, List}
 use Rattle.eris_base.specs.declared.ids.Place.{Place}
 use Rattle.eris_base.specs.declared.ids.ReplicaId.{ReplicaId}
 use Rattle.eris_base.specs.declared.ids.ShardId.{ShardId}
@@ -55,7 +55,7 @@ module _ (system : EpochSystem) (events : List EpochEvent) where
   pub record DroppedThen (k : ℕ) (shard : ShardId) (view : View) (place : Place) (replica : ReplicaId) : Type 0 where
     pub moment : ℕ
     pub by : moment < k
-    pub dropped : DroppedForATime (member_of system shard replica) (replica_then system events moment shard replica) (replica_then system events (moment + 1) shard replica).part place shard replica view
+    pub dropped : DroppedForATime (member_of system shard replica) (replica_then system events moment shard replica) (replica_then system events (suc moment) shard replica).part place shard replica view
 
   -- A QUORUM DROPPED the place for a time in some view, its learner among it
   pub record IsAgreed (k : ℕ) (shard : ShardId) (place : Place) : Type 0 where
