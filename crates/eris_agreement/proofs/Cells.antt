@@ -5,9 +5,10 @@ use Rattle.std.proofs.lemmas.Bool.{cases_eq}
 use Rattle.std.specs.Prelude.{slice_get, slice_set}
 use Rattle.eris_base.specs.declared.ids.ReplicaId.{ReplicaId}
 use Rattle.eris_base.specs.declared.ids.ShardId.{ShardId}
-use Rattle.eris_rules.specs.ReplicaStates.{ReplicaState, first_state}
+use Rattle.eris_rules.specs.ReplicaStates.{ReplicaState}
 use Rattle.eris_rules.specs.Worlds.{in_row, replica_at, with_in_row, with_replica}
 use Rattle.eris_epoch_law.proofs.Frame.{shard_equal, replica_equal}
+use Rattle.eris_agreement.specs.Alone.{or_first, state_of}
 
 pub get-set : {X : Type 0} (xs : List X) (i j : ℕ) (old y : X) → slice_get xs i ≡ Some old → ((j ≡ i) × (slice_get (slice_set xs i y) j ≡ Some y)) ⊎ (slice_get (slice_set xs i y) j ≡ slice_get xs j)
 get-set [] i j old y h = absurd (cc)
@@ -54,14 +55,6 @@ module _ {X : Type 0} where
       → replica_at (with_replica rows shard replica made) shard replica ≡ Some made
   unfolding replica_at with_replica
   cell-same rows shard replica old made h = same_some rows shard.0 replica.0 old made (slice_get rows shard.0) refl h
-
-abbrev pub or_first : ShardId → Option ReplicaState → ReplicaState
-or_first shard None = first_state shard
-or_first shard (Some state) = state
-
--- the replica's state, or that of one which begins, where there is no such replica
-unfoldable pub state_of : List (List ReplicaState) → ShardId → ReplicaId → ReplicaState
-state_of rows shard replica = or_first shard (replica_at rows shard replica)
 
 pub state_of-some : (rows : List (List ReplicaState)) (shard : ShardId) (replica : ReplicaId) (state : ReplicaState) → replica_at rows shard replica ≡ Some state
     → state_of rows shard replica ≡ state

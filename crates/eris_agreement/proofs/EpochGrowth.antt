@@ -36,9 +36,10 @@ use Rattle.eris_rules.specs.Replicas.{still, steps_in, steps, asks_start, promis
 use Rattle.eris_rules.specs.Worlds.{replica_at, with_replica}
 use Rattle.eris_epoch_law.specs.Members.{In}
 use Rattle.eris_epoch_law.proofs.Members.{Each-at, Each-any, Each-map, Each-flat_map, In-append, In-left}
+use Rattle.eris_agreement.specs.Alone.{stamping_or, stamping_of, state_of}
 use Rattle.eris_agreement.specs.Servers.{Servers, servers_of}
 use Rattle.eris_agreement.specs.WorldMoments.{world_at}
-use Rattle.eris_agreement.proofs.Cells.{state_of, state_of-some, state-same, state-other, everywhere, get-set, get-set_same}
+use Rattle.eris_agreement.proofs.Cells.{state_of-some, state-same, state-other, everywhere, get-set, get-set_same}
 use Rattle.eris_agreement.proofs.ClientAsks.{IsAsk, AsksOnly}
 use Rattle.eris_agreement.proofs.CoordLeaves.{CoordLeaf, noting}
 use Rattle.eris_agreement.proofs.ReplicaLeaves.{ReplicaLeaf}
@@ -53,15 +54,6 @@ Tells after message = Unit {0}
 
 abbrev pub TellsSent : Servers → Outgoing → Type 0
 TellsSent after one = Tells after one.message
-
--- the packets that the sequencer of the epoch stamped are those, or there is no such sequencer yet
-abbrev pub stamping_or : Stamping → Option Stamping → Stamping
-stamping_or none None = none
-stamping_or none (Some stamping) = stamping
-
--- the sequencer of an epoch, or one that has stamped nothing, where it hasn't begun
-unfoldable pub stamping_of : ConfigValue → List Stamping → Epoch → Stamping
-stamping_of config stampings epoch = stamping_or (new_stamping config epoch) (slice_get stampings epoch.0)
 
 -- one event, and what it leaves
 pub record IsAfter (config : ConfigValue) (now after : Servers) : Type 0 where

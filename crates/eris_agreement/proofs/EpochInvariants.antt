@@ -38,10 +38,11 @@ use Rattle.eris_rules.specs.Worlds.{first_world, first_replicas, replica_at, wit
 use Rattle.eris_epoch_law.specs.Members.{In}
 use Rattle.eris_epoch_law.proofs.Coords.{notice_in, right_coord}
 use Rattle.eris_epoch_law.proofs.Members.{Each-at, Each-by_In}
+use Rattle.eris_agreement.specs.Alone.{or_first, state_of}
 use Rattle.eris_agreement.specs.ClosedBelow.{closed_below}
 use Rattle.eris_agreement.specs.Servers.{Servers, servers_of}
 use Rattle.eris_agreement.specs.WorldMoments.{moment_from, world_at}
-use Rattle.eris_agreement.proofs.Cells.{state_of, or_first, state_of-some, state-same, state-other, everywhere}
+use Rattle.eris_agreement.proofs.Cells.{state_of-some, state-same, state-other, everywhere}
 use Rattle.eris_agreement.proofs.ClosedLaws.{closed_below-kept, closed_below-all, left_behind-epoch}
 use Rattle.eris_agreement.proofs.CoordLeaves.{CoordLeaf, noting}
 use Rattle.eris_agreement.proofs.EpochGrowth.{IsAfter, is_after, replica_after, coordinator_after, TellsSent}

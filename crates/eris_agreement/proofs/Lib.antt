@@ -8,3 +8,5 @@ pub mod EpochGrowth
 pub mod ClosedLaws
 pub mod InnerLaws
 pub mod EpochInvariants
+pub mod SaidIn
+pub mod FollowSteps

@@ -1,3 +1,4 @@
 pub mod WorldMoments
 pub mod Servers
 pub mod ClosedBelow
+pub mod Alone
