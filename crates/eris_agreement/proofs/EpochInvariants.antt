@@ -181,7 +181,7 @@ module _ (config : ConfigValue) (now : Servers) (hold : HoldOfEpochs now) where
   noted_now out e step = more_sent now (coordinator_moved now out) step.kept e hold.noted
 
   -- a part that came for the target is noted rightly
-  noted_more : (replica : ReplicaId) (part : PartValue) → In (record { to = Coordinator; message = Message.EpochState replica now.coordinator.target part }) now.sent
+  pub noted_more : (replica : ReplicaId) (part : PartValue) → In (record { to = Coordinator; message = Message.EpochState replica now.coordinator.target part }) now.sent
       → is_in_place_at_coordinator config (Message.EpochState replica now.coordinator.target part) ≡ true → Each (IsNotedRight now.sent now.coordinator.target) (noting now.coordinator replica part).noted
   noted_more replica part i ok = each-with_noted (IsNotedRight now.sent now.coordinator.target) now.coordinator.noted (record { replica = replica; part = part }) hold.noted
       (record { sent = i; right = right_state config replica now.coordinator.target part ok })

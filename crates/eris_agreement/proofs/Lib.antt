@@ -10,3 +10,5 @@ pub mod InnerLaws
 pub mod EpochInvariants
 pub mod SaidIn
 pub mod FollowSteps
+pub mod Growth
+pub mod Reduction

@@ -2,3 +2,4 @@ pub mod WorldMoments
 pub mod Servers
 pub mod ClosedBelow
 pub mod Alone
+pub mod EpochRuns
