@@ -5,6 +5,7 @@ use Rattle.std.specs.List.{range_with_len}
 use Rattle.std.specs.Prelude.{slice_get, slice_set}
 use Rattle.eris_base.specs.declared.ids.ReplicaId.{ReplicaId}
 use Rattle.eris_base.specs.declared.ids.ShardId.{ShardId}
+use Rattle.eris_base.specs.declared.ids.View.{View}
 use Rattle.eris_rules.specs.ReplicaStates.{EpochReplica, fresh}
 use Rattle.eris_rules.specs.Addressees.{replica_count}
 use Rattle.eris_rules.specs.Worlds.{in_row, replica_at, with_in_row, with_replica}
@@ -31,6 +32,9 @@ get-set_same (x ∷ xs) (suc i) old y h = get-set_same xs i old y h
 -- names are their numbers
 pub shard_equal : (a b : ShardId) → a.0 ≡ b.0 → a ≡ b
 shard_equal a b e = λ i. record { 0 = e i }
+
+pub view_equal : (a b : View) → a.0 ≡ b.0 → a ≡ b
+view_equal a b e = λ i. record { 0 = e i }
 
 pub replica_equal : (a b : ReplicaId) → a.0 ≡ b.0 → a ≡ b
 replica_equal a b e = λ i. record { 0 = e i }

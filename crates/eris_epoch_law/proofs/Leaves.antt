@@ -28,7 +28,7 @@ use Rattle.eris_rules.specs.Settling.{shared_number, tells_settled, settles, rai
 use Rattle.eris_rules.specs.Speaking.{speaks_for, has_gap, find_gap}
 use Rattle.eris_rules.specs.Views.{entered, shows_part, view_tally, starts_view, tests_view, enters_view, suspect_row, notes_part, tells_view, view_change_same, view_change_shown, is_shown_to, view_change_row, begins_here, takes_view, start_view_row}
 use Rattle.eris_epoch_law.proofs.Members.{Each-by_In}
-use Rattle.eris_epoch_law.proofs.Frame.{shard_equal}
+use Rattle.eris_epoch_law.proofs.Frame.{shard_equal, view_equal}
 use Rattle.eris_epoch_law.specs.Members.{In}
 
 abbrev pub IsNormal : EpochReplica → Type 0
@@ -98,9 +98,6 @@ pub data Leaf (me : Member) (state : EpochReplica) : EpochInput → EpochOut →
   AsksHowFar : (input : EpochInput) (out : EpochOut) → IsNormal out.state → is_learner me out.state.view ≡ true → Leaf me state input out → Leaf me state input (also_asks me out)
   AsksGap : (input : EpochInput) → IsNormal state → has_gap state.part ≡ true
       → Leaf me state input (record { state = state; sends = find_gap me state.part ∷ [] })
-
-view_equal : (a b : View) → a.0 ≡ b.0 → a ≡ b
-view_equal a b e = λ i. record { 0 = e i }
 
 module _ (me : Member) (state : EpochReplica) where
   choose : (input : EpochInput) (b : Bool) (x y : EpochOut) → (b ≡ true → Leaf me state input x) → (b ≡ false → Leaf me state input y) → Leaf me state input (if b then x else y)

@@ -8,7 +8,4 @@ pub mod Moments
 pub mod StampList
 pub mod FineParts
 pub mod FineWorlds
-pub mod Turns
-pub mod Views
-pub mod Drops
-pub mod KeyLemma
+pub mod OfEpoch

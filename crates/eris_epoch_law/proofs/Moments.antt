@@ -128,7 +128,8 @@ full_move system world _ (CoordMoves message i) full = full
 full_move system world _ NudgeMoves full = full
 full_move system world _ (Stamps asker id body fits free) full = full
 
-last : (j k : ℕ) → j ≤ suc k → (j ≤ k) ⊎ (j ≡ suc k)
+-- a moment up to the next is no later than this one, or is the next
+pub last : (j k : ℕ) → j ≤ suc k → (j ≤ k) ⊎ (j ≡ suc k)
 last j k h = grind arith
 
 module _ (system : EpochSystem) (events : List EpochEvent) where

@@ -4,4 +4,3 @@ pub mod Reading
 pub mod Causes
 pub mod Stamped
 pub mod Fine
-pub mod Quorums

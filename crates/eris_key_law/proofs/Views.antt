@@ -24,7 +24,7 @@ use Rattle.eris_epoch_law.specs.Causes.{Cause, ByReplica, ByCoordinator, BySeque
 use Rattle.eris_epoch_law.specs.EpochWorlds.{EpochSystem, EpochWorld, EpochEvent, member_of, first_epoch_world, after_stamping, after_replica, after_coordinator, moment}
 use Rattle.eris_epoch_law.specs.Fine.{KnownLists, known_in, IsFine, IsFineNote}
 use Rattle.eris_epoch_law.specs.Members.{In}
-use Rattle.eris_epoch_law.specs.Quorums.{IsQuorum, Had, IsBacked}
+use Rattle.eris_key_law.specs.Quorums.{IsQuorum, Had, IsBacked}
 use Rattle.eris_epoch_law.specs.Reading.{read, replica_then}
 use Rattle.eris_epoch_law.specs.Stamped.{IsStampingOf}
 use Rattle.eris_epoch_law.proofs.FineParts.{held_fine, fine_merge}
@@ -33,10 +33,10 @@ use Rattle.eris_epoch_law.proofs.Frame.{IsWritten, read-some, written, first_fre
 use Rattle.eris_epoch_law.proofs.Grow.{IsWithin-union}
 use Rattle.eris_epoch_law.proofs.Leaves.{ComesFrom}
 use Rattle.eris_epoch_law.proofs.Members.{Each-at, Each-by_In}
-use Rattle.eris_epoch_law.proofs.Moments.{full_at, next, later, cause}
+use Rattle.eris_epoch_law.proofs.Moments.{last, full_at, next, later, cause}
 use Rattle.eris_epoch_law.proofs.Moves.{Came, Move, Rests, ReplicaMoves, CoordMoves, NudgeMoves, Stamps, moved}
 use Rattle.eris_epoch_law.proofs.StampList.{stamps}
-use Rattle.eris_epoch_law.proofs.Turns.{Turn, Same, Stays, Begins, Joins, IsTurned, turned}
+use Rattle.eris_key_law.proofs.Turns.{Turn, Same, Stays, Begins, Joins, IsTurned, turned}
 
 -- the note of a listed replica
 note_of : (replica : ReplicaId) (noted : List (ReplicaId × PartValue)) → has_replica (replicas_of noted) replica ≡ true → (one : ReplicaId × PartValue) × In one noted × (one.0 ≡ replica)
@@ -45,9 +45,6 @@ note_of replica (one ∷ noted) h = elim (or_cases (replica.0 == one.0.0) (has_r
   | inl here ↦ (one, inl refl, replica_equal one.0 replica (sym (eqb-true _ _ here)))
   | inr later ↦ (let found = note_of replica noted later in (found.0, inr found.1, found.2))
 ]
-
-last : (j k : ℕ) → j ≤ suc k → (j ≤ k) ⊎ (j ≡ suc k)
-last j k h = grind arith
 
 module _ (system : EpochSystem) (events : List EpochEvent) where
   abbrev at : ℕ → EpochWorld
@@ -292,3 +289,6 @@ module _ (system : EpochSystem) (events : List EpochEvent) where
   -- VIEW CHANGES ARE SOUND at every moment
   pub sound : (k : ℕ) (s : ShardId) (r : ReplicaId) → IsSound k s r
   sound k s r = sound_to k k s r (omega arith)
+
+  pub above_zero : (k : ℕ) (s : ShardId) (r : ReplicaId) → is_normal (then k s r).status ≡ true → 0 < (then k s r).view.0 → IsBacked system events k s (then k s r).view (then k s r).part
+  above_zero k s r normal above = elim ((sound k s r).normal normal) [ inl zero_view ↦ absurd (omega arith) | inr backed ↦ backed ]

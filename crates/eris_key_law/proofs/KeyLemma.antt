@@ -26,15 +26,15 @@ use Rattle.eris_epoch_law.specs.Causes.{IsLater}
 use Rattle.eris_epoch_law.specs.EpochWorlds.{EpochSystem, EpochWorld, EpochEvent, moment}
 use Rattle.eris_epoch_law.specs.Fine.{known_in, IsFine}
 use Rattle.eris_epoch_law.specs.Members.{In}
-use Rattle.eris_epoch_law.specs.Quorums.{IsQuorum, Had, IsBacked, Reached, SpokePast, DroppedThen, IsAgreed}
+use Rattle.eris_key_law.specs.Quorums.{IsQuorum, Had, IsBacked, Reached, SpokePast, DroppedThen, IsAgreed}
 use Rattle.eris_epoch_law.specs.Reading.{replica_then}
 use Rattle.eris_epoch_law.specs.Stamped.{HasNumber, IsStampedIn}
-use Rattle.eris_epoch_law.proofs.Drops.{place-number, number-place, first_dropped, HasFirst, has_first}
+use Rattle.eris_key_law.proofs.Drops.{place-number, number-place, first_dropped, HasFirst, has_first}
 use Rattle.eris_epoch_law.proofs.FineParts.{held_fine}
 use Rattle.eris_epoch_law.proofs.FineWorlds.{all_fine}
 use Rattle.eris_epoch_law.proofs.Moments.{later}
 use Rattle.eris_epoch_law.proofs.StampList.{stamps}
-use Rattle.eris_epoch_law.proofs.Views.{sound}
+use Rattle.eris_key_law.proofs.Views.{sound}
 
 -- an entry that is no gap is dropped or counts
 pub no_gap : (part : PartValue) (number : ℕ) → is_gap part number ≡ false → (is_dropped part number ≡ true) ⊎ (entry_of part number ≡ Entry.Txn)

@@ -26,24 +26,16 @@ use Rattle.eris_epoch_law.specs.Causes.{Cause, ByReplica, ByCoordinator, BySeque
 use Rattle.eris_epoch_law.specs.EpochWorlds.{EpochSystem, EpochWorld, EpochEvent, member_of, first_epoch_world, after_stamping, after_replica, after_coordinator, moment}
 use Rattle.eris_epoch_law.specs.Fine.{known_in, IsFinePacket, IsFineMessage}
 use Rattle.eris_epoch_law.specs.Members.{In}
-use Rattle.eris_epoch_law.specs.Quorums.{IsQuorum, DroppedThen, IsAgreed}
+use Rattle.eris_key_law.specs.Quorums.{IsQuorum, DroppedThen, IsAgreed}
 use Rattle.eris_epoch_law.specs.Reading.{replica_then}
 use Rattle.eris_epoch_law.specs.Stamped.{HasNumber, IsStampedIn}
 use Rattle.eris_epoch_law.proofs.Coords.{told, IsByQuorums, IsWithPacket, IsCoordRight, notice_in, right_coord}
+use Rattle.eris_epoch_law.proofs.Frame.{shard_equal, replica_equal, view_equal}
 use Rattle.eris_epoch_law.proofs.FineWorlds.{all_fine}
 use Rattle.eris_epoch_law.proofs.Members.{Each-at, In-left, any_witness}
 use Rattle.eris_epoch_law.proofs.Moments.{later, cause}
 use Rattle.eris_epoch_law.proofs.Moves.{Move, Rests, ReplicaMoves, CoordMoves, NudgeMoves, Stamps, moved}
 use Rattle.eris_epoch_law.proofs.StampList.{stamps}
-
-view_equal : (a b : View) → a.0 ≡ b.0 → a ≡ b
-view_equal a b e = λ i. record { 0 = e i }
-
-shard_equal : (a b : ShardId) → a.0 ≡ b.0 → a ≡ b
-shard_equal a b e = λ i. record { 0 = e i }
-
-replica_equal : (a b : ReplicaId) → a.0 ≡ b.0 → a ≡ b
-replica_equal a b e = λ i. record { 0 = e i }
 
 -- notes that the test takes for the same are equal
 same_note-true : (some other : DropNote) → same_note some other ≡ true → some ≡ other
