@@ -40,7 +40,7 @@ pub rise : (f : ℕ → ℕ) → ((k : ℕ) → f k ≤ f (suc k)) → (j k : �
 rise f step j k le = over (λ a b. f a ≤ f b) (λ a. omega arith) (λ a b low h. let up = step b in omega arith) j k le
 
 -- ---- what is closed below the current epoch
-closed_coord : (config : ConfigValue) (now : Servers) (hold : HoldOfEpochs now) (epoch : Epoch) → epoch.0 ≤ now.coordinator.current.0 → (message : Message) (out : CoordOut)
+closed_coord : (config : ConfigValue) (now : Servers) (hold : HoldOfEpochs config now) (epoch : Epoch) → epoch.0 ≤ now.coordinator.current.0 → (message : Message) (out : CoordOut)
     → In (record { to = Coordinator; message = message }) now.sent → CoordLeaf config now.coordinator message out → closed_below epoch out.state.closed ≡ closed_below epoch now.coordinator.closed
 unfolding coord_steps_in starts raises_target closes after_closing begun_epoch
 closed_coord config now hold epoch le message _ i (CoordLeaf.Nothing m) = refl
@@ -50,9 +50,9 @@ closed_coord config now hold epoch le _ _ i (CoordLeaf.Raises shard replica othe
 closed_coord config now hold epoch le _ _ i (CoordLeaf.Notes replica part up ok) = refl
 closed_coord config now hold epoch le _ _ i (CoordLeaf.Closes replica part up ok ready) =
     closed_below-kept epoch now.coordinator.current now.coordinator.closed _ le
-    (left_behind-epoch config (noting now.coordinator replica part) hold.found (λ one j. (Each-at (IsNotedRight now.sent now.coordinator.target) _ one (noted_more config now hold replica part i ok) j).right))
+    (left_behind-epoch config (noting now.coordinator replica part) hold.found (λ one j. (Each-at (IsNotedRight config now.sent now.coordinator.target) _ one (noted_more config now hold replica part i ok) j).right))
 
-closed_move : (config : ConfigValue) (now after : Servers) → HoldOfEpochs now → Move config now after → (epoch : Epoch) → epoch.0 ≤ now.coordinator.current.0
+closed_move : (config : ConfigValue) (now after : Servers) → HoldOfEpochs config now → Move config now after → (epoch : Epoch) → epoch.0 ≤ now.coordinator.current.0
     → closed_below epoch after.coordinator.closed ≡ closed_below epoch now.coordinator.closed
 unfolding coord_steps_in
 closed_move config now _ hold Rests epoch le = refl
