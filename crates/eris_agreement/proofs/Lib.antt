@@ -1,0 +1,15 @@
+pub mod Moments
+pub mod Cells
+pub mod ReplicaLeaves
+pub mod CoordLeaves
+pub mod ClientAsks
+pub mod Moves
+pub mod EpochGrowth
+pub mod ClosedLaws
+pub mod InnerLaws
+pub mod EpochInvariants
+pub mod SaidIn
+pub mod FollowSteps
+pub mod Growth
+pub mod Reduction
+pub mod Closings

@@ -1,0 +1,5 @@
+pub mod WorldMoments
+pub mod Servers
+pub mod ClosedBelow
+pub mod Alone
+pub mod EpochRuns
