@@ -4,7 +4,6 @@ use Rattle.eris_base.specs.TxnIds as base_txn_ids
 use Rattle.eris_drop.specs.Notes as drop_notes
 use Rattle.eris_drop.specs.Requests as drop_requests
 use Rattle.eris_epoch.specs.Closing as epoch_closing
-use Rattle.eris_epoch.specs.ClosingSteps as epoch_closing_steps
 use Rattle.eris_epoch.specs.EpochTallies as epoch_epoch_tallies
 use Rattle.eris_epoch.specs.SamePackets as epoch_same_packets
 use Rattle.eris_epoch.specs.Sorting as epoch_sorting
@@ -44,9 +43,7 @@ use Rattle.eris_sequencer.specs.Asks as sequencer_asks
 use Rattle.eris_sequencer.specs.Sequencers as sequencer_sequencers
 use Rattle.eris_sequencer.specs.Stamps as sequencer_stamps
 use Rattle.eris_txn.specs.Keys as txn_keys
-use Rattle.eris_view.specs.AckCells as view_ack_cells
 use Rattle.eris_view.specs.AckTallies as view_ack_tallies
-use Rattle.eris_view.specs.Holders as view_holders
 use Rattle.eris_view.specs.ViewTallies as view_view_tallies
 
 unfoldable pub of_base : ℕ
@@ -70,11 +67,11 @@ unfolding drop_notes.same_note drop_notes.has_note drop_notes.note drop_notes.fo
 of_drop = 0
 
 unfoldable pub of_view : ℕ
-unfolding view_ack_cells.acks_from view_ack_cells.offered view_ack_tallies.no_acks view_ack_tallies.with_ack view_ack_tallies.note_length view_ack_tallies.how_many_have view_ack_tallies.quorum_has view_ack_tallies.greatest view_ack_tallies.settled view_holders.holders view_view_tallies.no_parts view_view_tallies.with_part view_view_tallies.note_part view_view_tallies.is_ready view_view_tallies.union_of
+unfolding view_ack_tallies.no_acks view_ack_tallies.with_ack view_ack_tallies.note_length view_ack_tallies.how_many_have view_ack_tallies.quorum_has view_ack_tallies.greatest view_ack_tallies.settled view_view_tallies.no_parts view_view_tallies.with_part view_view_tallies.note_part view_view_tallies.is_ready view_view_tallies.union_of
 of_view = 0
 
 unfoldable pub of_epoch : ℕ
-unfolding epoch_closing.held_of epoch_closing.held_in epoch_closing.undropped epoch_closing.with_new epoch_closing.each_once epoch_closing.by_places epoch_closing.close epoch_closing.shard_log epoch_closing_steps.with_packet epoch_closing_steps.with_packets epoch_closing_steps.with_turn epoch_epoch_tallies.no_notes epoch_epoch_tallies.with_noted epoch_epoch_tallies.note_state epoch_epoch_tallies.replicas_of epoch_epoch_tallies.is_heard epoch_epoch_tallies.are_heard epoch_epoch_tallies.is_ready epoch_same_packets.same_list epoch_same_packets.same_op epoch_same_packets.same_mode epoch_same_packets.same_lock epoch_same_packets.same_write epoch_same_packets.same_body epoch_same_packets.same_place_on epoch_same_packets.same_stamp epoch_same_packets.same_packet epoch_same_packets.is_listed epoch_sorting.sorted
+unfolding epoch_closing.held_of epoch_closing.held_in epoch_closing.undropped epoch_closing.with_new epoch_closing.each_once epoch_closing.by_places epoch_closing.close epoch_closing.shard_log epoch_epoch_tallies.no_notes epoch_epoch_tallies.with_noted epoch_epoch_tallies.note_state epoch_epoch_tallies.replicas_of epoch_epoch_tallies.is_heard epoch_epoch_tallies.are_heard epoch_epoch_tallies.is_ready epoch_same_packets.same_list epoch_same_packets.same_op epoch_same_packets.same_mode epoch_same_packets.same_lock epoch_same_packets.same_write epoch_same_packets.same_body epoch_same_packets.same_place_on epoch_same_packets.same_stamp epoch_same_packets.same_packet epoch_same_packets.is_listed epoch_sorting.sorted
 of_epoch = 0
 
 unfoldable pub of_msg : ℕ
