@@ -1,9 +1,8 @@
 -- WHERE WHAT A CLIENT COUNTED WAS SAID over an order of packets, each of its events is counted as evidence asks. Used where
 -- the protocol's half of the law meets the meaning's.
-use Rattle.std.proofs.Common.{◌≡◌, ◌≤◌, ℕ, zero, suc, Bool, true, false, cond, ◌||◌, ◌==◌, Option, Some, None, unwrap_or, List, [], ◌∷◌, refl, ap, sym, ◌∙◌, subst, inl, inr, arith}
+use Rattle.std.proofs.Common.{◌≡◌, ◌≤◌, ℕ, zero, suc, Bool, true, ◌||◌, Option, Some, unwrap_or, List, [], ◌∷◌, refl, ap, sym, ◌∙◌, subst, inl, inr, arith}
 use Rattle.std.specs.Prelude.{◌⊎◌, is_some}
 use Rattle.std.proofs.lemmas.Bool.{cond_both, eq-eqb}
-use Rattle.eris_base.specs.declared.ids.ClientId.{ClientId}
 use Rattle.eris_base.specs.declared.ids.Phase.{Phase}
 use Rattle.eris_base.specs.declared.ids.ShardId.{ShardId}
 use Rattle.eris_base.specs.declared.ids.TxnId.{TxnId}
@@ -72,8 +71,8 @@ module _ (me : ClientIdentity) (inputs : List ClientInput) (number : ℕ) (histo
         shard = first.0;
         part = part_of id plan first.0 is first.1;
         said = subst (λ (a : Answer). SaidOn first.0 id Phase.Conclude a packets) (sym own)
-          (subst (λ (p : Phase). SaidOn first.0 id p Answer.Committed packets) phase
-          (said id body first.0 Answer.Committed (all first.0 (ap (λ (l : List Key). any_on l first.0) keys ∙ first.1))));
+            (subst (λ (p : Phase). SaidOn first.0 id p Answer.Committed packets) phase
+            (said id body first.0 Answer.Committed (all first.0 (ap (λ (l : List Key). any_on l first.0) keys ∙ first.1))));
       }
   outcome_said id plan body outcome is keys phase (OneAborts own shard part on others) =
       record {
@@ -89,8 +88,8 @@ module _ (me : ClientIdentity) (inputs : List ClientInput) (number : ℕ) (histo
       let is = txn_there id (Whole rests.operations) [] rests.events_are in
       ByWhole (subst (λ (a : Answer). WholeEvidence (txn_of history) id a packets) (sym rests.answer_is)
       (whole_joined (txn_of history) id rests.operations rests.given rests.answers packets is
-        (subst CanRun is (txn_can_run history id with.well (ap (λ (found : Option Txn). is_some found) (found_is id (Whole rests.operations) [] rests.events_are))))
-        rests.joined (λ shard part. said id _ shard _ (rests.counted shard (ap (λ (t : Txn). takes_part shard t) (sym is) ∙ part)))))
+      (subst CanRun is (txn_can_run history id with.well (ap (λ (found : Option Txn). is_some found) (found_is id (Whole rests.operations) [] rests.events_are))))
+      rests.joined (λ shard part. said id _ shard _ (rests.counted shard (ap (λ (t : Txn). takes_part shard t) (sym is) ∙ part)))))
   answer_counted id answer (OfRefusal rests) =
       let is = txn_there id (General rests.plan) [] rests.events_are in
       ByRefusal (record {
@@ -106,7 +105,7 @@ module _ (me : ClientIdentity) (inputs : List ClientInput) (number : ℕ) (histo
       ByOutcome (record {
         values = rests.values;
         read = with.events (Read id rests.values) (event_stays me inputs number (suc number) (omega arith) (Read id rests.values)
-          (event_there id (history_to me inputs number) (Read id rests.values) (subst (λ (l : List HistoryEvent). IsIn (Read id rests.values) l) (sym rests.events_are) (inr (inl refl)))));
+            (event_there id (history_to me inputs number) (Read id rests.values) (subst (λ (l : List HistoryEvent). IsIn (Read id rests.values) l) (sym rests.events_are) (inr (inl refl)))));
         outcome = outcome_said id rests.plan _ answer is (conclusion_keys rests.plan rests.values) (conclusion_phase rests.plan rests.values) rests.rests;
       })
 
@@ -152,5 +151,5 @@ pub history_counted : (me : ClientIdentity) (inputs : List ClientInput) → Abor
 history_counted me inputs others number history packets with said =
     Each-of (Counted history packets) (history_to me inputs number)
     (λ event there. let so = happened me inputs others number event there in
-      event_counted me inputs so.at history packets (history_early me inputs (suc so.at) number history so.before with)
-      (λ id body shard answer on. said id body shard answer (counted_stays me inputs id body shard answer (suc so.at) number so.before on)) event so.rests)
+    event_counted me inputs so.at history packets (history_early me inputs (suc so.at) number history so.before with)
+    (λ id body shard answer on. said id body shard answer (counted_stays me inputs id body shard answer (suc so.at) number so.before on)) event so.rests)
