@@ -1,12 +1,11 @@
 -- WHERE THE BODY OF EACH ASK COMES FROM. Used where the origin of each stamped packet is shown.
-use Rattle.std.proofs.Common.{◌≡◌, ◌≤◌, ℕ, zero, suc, ◌==◌, Bool, true, false, cond, Option, Some, None, List, [], ◌∷◌, ◌++◌, refl, ap, sym, ◌∙◌, subst, arith, inl, inr}
+use Rattle.std.proofs.Common.{◌≡◌, ℕ, zero, suc, true, false, Option, Some, None, List, [], ◌∷◌, ◌++◌, refl, ap, sym, ◌∙◌, subst, arith, inl, inr}
 use Rattle.std.specs.Prelude.{◌⊎◌, slice_get, unwrap_or}
 use Rattle.std.proofs.lemmas.Bool.{both_ways, cases_Bool, eq-eqb, cond-true, cond-false}
 use Rattle.eris_base.specs.declared.ids.ShardId.{ShardId}
 use Rattle.eris_base.specs.declared.ids.TxnId.{TxnId}
 use Rattle.eris_base.specs.Each.{Each}
 use Rattle.eris_txn.specs.declared.body.Body.{Body}
-use Rattle.eris_txn.specs.declared.body.Body.TheVariants.{Abort, Commit, Independent, Prelim}
 use Rattle.eris_txn.specs.declared.history.HistoryEvent.{HistoryEvent}
 use Rattle.eris_txn.specs.declared.history.HistoryEvent.TheVariants.{Submit, Read}
 use Rattle.eris_txn.specs.declared.key.Key.{Key}
@@ -14,11 +13,9 @@ use Rattle.eris_base.specs.declared.ids.ClientId.{ClientId}
 use Rattle.eris_txn.specs.declared.txn.Txn.{Txn}
 use Rattle.eris_txn.specs.declared.txn.Txn.TheVariants.{Whole, General}
 use Rattle.eris_txn.specs.Bodies.{any_on, has_shard, keys_of, participants_of}
-use Rattle.eris_txn.specs.PlanValues.{PlanValue}
-use Rattle.eris_txn.specs.Plans.{guards_hold, locks_of, value_in, writes_from}
+use Rattle.eris_txn.specs.Plans.{guards_hold, value_in}
 use Rattle.eris_txn.proofs.BodyLaws.{has_shard-participants}
-use Rattle.eris_audit.specs.Histories.{first_submit, txn_of}
-use Rattle.eris_general.specs.Outcomes.{conclusion_of}
+use Rattle.eris_audit.specs.Histories.{txn_of}
 use Rattle.eris_msg.specs.declared.outgoing.Outgoing.{Outgoing}
 use Rattle.eris_rules.specs.declared.transaction.Course.{Course}
 use Rattle.eris_rules.specs.declared.transaction.Course.TheVariants.{Executing, Reading, Concluding, Aborting}
@@ -125,7 +122,7 @@ module _ (me : ClientIdentity) (inputs : List ClientInput) (others : AbortsOther
         body = body_of ask.transaction.course;
         is = ask.is;
         rests = open_rests me inputs number ask.id ask.transaction ask.unfinished
-          (subst (StandsAt me inputs number ask.id (events_of ask.id (history_to me inputs number))) ask.known (stands_at me inputs others number ask.id));
+            (subst (StandsAt me inputs number ask.id (events_of ask.id (history_to me inputs number))) ask.known (stands_at me inputs others number ask.id));
       }
 
   -- EACH MESSAGE THAT A STEP SENDS is an Ask, and its body rests so

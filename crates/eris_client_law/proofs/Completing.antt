@@ -1,10 +1,10 @@
 -- What a half that is complete has: every shard that takes part is counted, and what its client makes of the counted
 -- answers. Used where a client's event is taken apart.
-use Rattle.std.proofs.Common.{◌≡◌, ◌+◌, ℕ, suc, Bool, true, false, cond, ◌&&◌, ◌||◌, ◌==◌, Option, Some, None, List, [], ◌∷◌, length, map, refl, ap, sym, ◌∙◌, subst, arith, inl, inr, map-id}
-use Rattle.std.specs.Prelude.{◌⊎◌, IsTrue}
-use Rattle.std.specs.List.{count_by, filter, find, list_all, list_any, sum_by}
+use Rattle.std.proofs.Common.{◌≡◌, ℕ, suc, Bool, true, false, cond, ◌||◌, ◌==◌, Option, Some, None, List, [], ◌∷◌, length, map, refl, ap, sym, ◌∙◌, subst, inl, inr, map-id}
+use Rattle.std.specs.Prelude.{◌⊎◌}
+use Rattle.std.specs.List.{count_by, filter, find, list_all, list_any}
 use Rattle.std.specs.Option.{option_map}
-use Rattle.std.proofs.lemmas.Bool.{and_parts, both_ways, cases_Bool, cond_both, eqb-true, or_parts}
+use Rattle.std.proofs.lemmas.Bool.{and_parts, cases_Bool, cond_both, eqb-true, or_parts}
 use Rattle.std.proofs.lemmas.List.Sums.{length-filter}
 use Rattle.eris_base.specs.declared.ids.ShardId.{ShardId}
 use Rattle.eris_base.specs.declared.ids.TxnId.{TxnId}
@@ -25,7 +25,7 @@ use Rattle.eris_general.specs.Outcomes.{is_aborted, outcome_of}
 use Rattle.eris_locks.specs.Shards.{is_on}
 use Rattle.eris_locks.specs.States.{is_conclusory}
 use Rattle.eris_rules.specs.Assembling.{assemble}
-use Rattle.eris_rules.specs.Clients.{all_op_answers, all_values, answer_of_shard, item_shards, op_answers_in, values_in}
+use Rattle.eris_rules.specs.Clients.{all_op_answers, all_values, answer_of_shard, op_answers_in, values_in}
 use Rattle.eris_rules.specs.ClientStates.{ClientIdentity}
 use Rattle.eris_rules.specs.Votes.{answer_fits, is_counted, items_on}
 use Rattle.eris_serial.specs.Joining.{IsJoined, TakesInTurn, shards_in_order}
@@ -181,6 +181,7 @@ module _ (me : ClientIdentity) (inputs : List ClientInput) (number : ℕ) (id : 
       absent : answer_of_shard counted shard ≡ None → ((any_on (keys_of body) shard ≡ true) ⊎ (any_on (keys_of body) shard ≡ false)) → items_on body shard ≡ 0
       absent is (inl part) = let found = counted_there body each whole shard part in let clash : Some found.0 ≡ None = sym found.1 ∙ is in absurd (cc)
       absent is (inr apart) = none_counted (λ (key : Key). key.shard.0 == shard.0) (keys_of body) apart
+
       by_answer : (found : Option Answer) → answer_of_shard counted shard ≡ found → length (items_in found) ≡ items_on body shard
       by_answer None is = ap (λ l. length l) nothing ∙ sym (absent is (cases_Bool (any_on (keys_of body) shard)))
       by_answer (Some answer) is = fits shard answer is (of_shard (On body) counted shard answer each is)
@@ -197,7 +198,7 @@ module _ (me : ClientIdentity) (inputs : List ClientInput) (number : ℕ) (id : 
       taken_is_joined OpAnswer key_of assemble (assemble_takes_in_turn OpAnswer) operations ops_given
       (gave_by_length OpAnswer key_of operations ops_given
       (λ shard. numbers op_answers_in (Independent operations) refl each whole (λ s answer is on. ops_number operations s answer on.fits) shard
-        ∙ count-map (λ (key : Key). key.shard.0 == shard.0) key_of operations))
+      ∙ count-map (λ (key : Key). key.shard.0 == shard.0) key_of operations))
 
   pub ops_counted : (operations : List Op) → Each (λ pair. On (Independent operations) pair.0 pair.1) counted → IsWhole (Independent operations)
       → (shard : ShardId) → any_on (map key_of operations) shard ≡ true → On (Independent operations) shard (Answer.Ops (ops_given shard))
@@ -226,7 +227,7 @@ module _ (me : ClientIdentity) (inputs : List ClientInput) (number : ℕ) (id : 
           (taken_is_joined (Option ℕ) (λ key. key) assemble (assemble_takes_in_turn (Option ℕ)) plan.keys values_given
           (gave_by_length (Option ℕ) (λ key. key) plan.keys values_given
           (λ shard. numbers values_in (Prelim (locks_of plan)) refl each whole (λ s answer is on. values_number (locks_of plan) s answer on.fits (not_aborted s answer is)) shard
-            ∙ (ap (λ (keys : List Key). count_by (λ (key : Key). key.shard.0 == shard.0) keys) keys_are ∙ sym (length-filter (λ key. is_on shard key) plan.keys))))))
+          ∙ (ap (λ (keys : List Key). count_by (λ (key : Key). key.shard.0 == shard.0) keys) keys_are ∙ sym (length-filter (λ key. is_on shard key) plan.keys))))))
 
       pub values_counted : (shard : ShardId) → any_on plan.keys shard ≡ true → On (Prelim (locks_of plan)) shard (Answer.Values (values_given shard))
       values_counted shard part =
@@ -247,9 +248,9 @@ pub outcome_counted : (me : ClientIdentity) (inputs : List ClientInput) (number 
 outcome_counted me inputs number id counted body concludes each whole =
     cond_both (list_any is_aborted (map (λ (p : ShardId × Answer). p.1) counted)) Answer.Aborted Answer.Committed (OutcomeRests me inputs number id body)
     (λ some. let found = aborting (CountedOn me inputs (suc number) id body) counted each some in
-      OneAborts refl found.0 (sym (has_shard-participants body found.0) ∙ found.1.part) found.1
-      (λ other part. let there = counted_there me inputs (suc number) id counted body each whole other part in (there.0, there.2)))
+    OneAborts refl found.0 (sym (has_shard-participants body found.0) ∙ found.1.part) found.1
+    (λ other part. let there = counted_there me inputs (suc number) id counted body each whole other part in (there.0, there.2)))
     (λ none. AllCommit refl (λ shard part.
-      let there = counted_there me inputs (suc number) id counted body each whole shard part in
-      subst (CountedOn me inputs (suc number) id body shard)
-      (outcome_fits body shard there.0 concludes there.2.fits (of_shard (λ s a. is_aborted a ≡ false) counted shard there.0 (none_aborts counted none) there.1)) there.2))
+    let there = counted_there me inputs (suc number) id counted body each whole shard part in
+    subst (CountedOn me inputs (suc number) id body shard)
+    (outcome_fits body shard there.0 concludes there.2.fits (of_shard (λ s a. is_aborted a ≡ false) counted shard there.0 (none_aborts counted none) there.1)) there.2))

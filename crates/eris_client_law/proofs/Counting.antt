@@ -1,11 +1,9 @@
 -- What a client's votes and counted shards rest on, before a message and after it. Used wherever a transaction
 -- hears a message.
-use Rattle.std.proofs.Common.{◌≡◌, ◌≤◌, ℕ, suc, Bool, true, false, cond, ◌&&◌, ◌==◌, Option, Some, None, List, [], ◌∷◌, ◌++◌, map, refl, ap, sym, ◌∙◌, subst, arith, inl, inr}
-use Rattle.std.specs.Prelude.{◌⊎◌, slice_get}
+use Rattle.std.proofs.Common.{◌≡◌, ℕ, suc, Bool, true, false, cond, ◌&&◌, ◌==◌, Option, Some, None, List, [], ◌∷◌, ◌++◌, map, refl, ap, ◌∙◌, subst, arith, inl, inr}
 use Rattle.std.specs.List.{filter}
 use Rattle.std.specs.Option.{option_or}
 use Rattle.std.proofs.lemmas.Bool.{cond_both, and_parts, eqb-true}
-use Rattle.eris_base.specs.declared.ids.ReplicaId.{ReplicaId}
 use Rattle.eris_base.specs.declared.ids.ShardId.{ShardId}
 use Rattle.eris_base.specs.declared.ids.TxnId.{TxnId}
 use Rattle.eris_base.specs.declared.ids.View.{View}
@@ -28,7 +26,7 @@ use Rattle.eris_rules.specs.Votes.{agrees_with, answer_by_votes, answer_fits, fi
 use Rattle.eris_serial.specs.Evidence.{IsIn}
 use Rattle.eris_serial.proofs.Runnable.{Each-in}
 use Rattle.eris_client_law.specs.ClientRuns.{ClientInput}
-use Rattle.eris_client_law.specs.Counts.{ByLate, ByVotes, CameFor, CountedByLate, CountedByVotes, CountedOn, IsCounted, IsVoteFor, IsVoteOf, message_of}
+use Rattle.eris_client_law.specs.Counts.{ByLate, ByVotes, CameFor, CountedOn, IsCounted, IsVoteFor, IsVoteOf, message_of}
 use Rattle.eris_client_law.proofs.Steps.{Hears, Lates, Votes}
 
 -- ---- what came stays come
@@ -80,11 +78,13 @@ module _ (me : ClientIdentity) (inputs : List ClientInput) (number : ℕ) (id : 
     where
       rest : same_packet (packet_with some) (packet_with some) ≡ true
       rest = same_packet-refl (packet_with some)
+
       with_test : (a b c d e : Bool) → a ≡ true → (((e && b) && c) && d) ≡ true → (((a && b) && c) && d) ≡ true
       with_test true true true true e p q = refl
       with_test true b c d true p q = q
       with_test true b c d false p q = cc
       with_test false b c d e p q = cc
+
       same : same_packet (packet_with some) (packet_with other) ≡ true
       same = with_test (same_stamp some other) _ _ _ (same_stamp some some) h rest
 
@@ -196,14 +196,14 @@ pub heard : (me : ClientIdentity) (inputs : List ClientInput) (number : ℕ) (id
 unfolding with_vote with_late late_fits
 heard me inputs number id before message _ came votes counted (Votes vote is fits) =
     let own : IsVoteFor me inputs number id (body_of before.course) vote =
-      record { came = subst (CameFor me inputs number id (body_of before.course)) is came; fits = fits } in
+    record { came = subst (CameFor me inputs number id (body_of before.course)) is came; fits = fits } in
     let all = Each-append (IsVoteFor me inputs number id (body_of before.course)) before.votes (vote ∷ []) votes (own, tt) in
     record {
       course_is = refl;
       finished_is = refl;
       votes = all;
       counted = each_with_answer me inputs number id (body_of before.course) before.counted vote.shard _ counted
-        (λ answer made. counted_by_votes me inputs number id (body_of before.course) (before.votes ++ vote ∷ []) vote answer all own made);
+          (λ answer made. counted_by_votes me inputs number id (body_of before.course) (before.votes ++ vote ∷ []) vote answer all own made);
     }
 heard me inputs number id before message _ came votes counted (Lates shard replica answer is fits) =
     let parts = and_parts (has_shard (participants_of (body_of before.course)) shard) (answer_fits (body_of before.course) shard answer) fits in
@@ -212,11 +212,11 @@ heard me inputs number id before message _ came votes counted (Lates shard repli
       finished_is = refl;
       votes = votes;
       counted = each_with_counted me inputs number id (body_of before.course) before.counted shard answer counted
-        (record {
-          counted = ByLate (record { replica = replica; came = subst (CameFor me inputs number id (body_of before.course)) is came });
-          part = parts.0;
-          fits = parts.1;
-        });
+          (record {
+            counted = ByLate (record { replica = replica; came = subst (CameFor me inputs number id (body_of before.course)) is came });
+            part = parts.0;
+            fits = parts.1;
+          });
     }
 
 -- the test of a vote that fits, written out

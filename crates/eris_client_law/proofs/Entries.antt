@@ -1,12 +1,12 @@
 -- A client's transactions by id: after one is put, it is found at its id, and every other as before. Used where a
 -- client's step changes one transaction.
-use Rattle.std.proofs.Common.{◌≡◌, ℕ, Bool, true, false, cond, ◌&&◌, ◌==◌, nat_lt, Option, Some, None, List, [], ◌∷◌, refl, ap, sym, ◌∙◌, subst, arith, ◌⊎◌, inl, inr}
-use Rattle.std.proofs.lemmas.Bool.{cases_Bool, both_ways, eqb-true, eq-eqb}
+use Rattle.std.proofs.Common.{◌≡◌, ℕ, Bool, true, false, cond, ◌==◌, Option, Some, List, [], ◌∷◌, refl, ap, sym, ◌∙◌, subst, arith, ◌⊎◌, inl, inr}
+use Rattle.std.proofs.lemmas.Bool.{cases_Bool, both_ways}
 use Rattle.std.proofs.lemmas.Bool.Decides.{nat_tests}
 use Rattle.std.specs.BTreeMap.{is_at, insert_entry}
 use Rattle.std.specs.Cmp.{tied_then}
 use Rattle.std.specs.Map.{lookup}
-use Rattle.std.specs.Ordering.{nat_cmp, ordering_then, is_eq, match_ordering}
+use Rattle.std.specs.Ordering.{nat_cmp, is_eq, match_ordering}
 use Rattle.std.specs.declared.cmp.Ordering.{Ordering}
 use Rattle.std.specs.declared.cmp.Ordering.TheVariants.{Less, Equal, Greater}
 use Rattle.eris_base.specs.declared.ids.TxnId.{TxnId}
@@ -43,7 +43,7 @@ found_after (entry ∷ entries) id transaction other = by_order (txn_id_cmp id e
     by_order : (order : Ordering) → txn_id_cmp id entry.0 ≡ order
         → found (insert_entry txn_id_cmp entries id transaction) ≡ cond (is_at (txn_id_cmp other) id) (Some transaction) (found entries)
         → found (match_ordering order ((id, transaction) ∷ entry ∷ entries) ((entry.0, transaction) ∷ entries) (entry ∷ insert_entry txn_id_cmp entries id transaction))
-            ≡ cond (is_at (txn_id_cmp other) id) (Some transaction) (cond (is_at (txn_id_cmp other) entry.0) (Some entry.1) (found entries))
+        ≡ cond (is_at (txn_id_cmp other) id) (Some transaction) (cond (is_at (txn_id_cmp other) entry.0) (Some entry.1) (found entries))
     by_order Less is rest = refl
     by_order Equal is rest = subst (λ (at : TxnId). cond (is_at (txn_id_cmp other) at) (Some transaction) (found entries) ≡ cond (is_at (txn_id_cmp other) id) (Some transaction) (cond (is_at (txn_id_cmp other) at) (Some entry.1) (found entries))) (one_id id entry.0 is) (twice (is_at (txn_id_cmp other) id))
       where
@@ -54,7 +54,7 @@ found_after (entry ∷ entries) id transaction other = by_order (txn_id_cmp id e
       where
         by_tests : ((is_at (txn_id_cmp other) id ≡ true) ⊎ (is_at (txn_id_cmp other) id ≡ false)) → ((is_at (txn_id_cmp other) entry.0 ≡ true) ⊎ (is_at (txn_id_cmp other) entry.0 ≡ false))
             → cond (is_at (txn_id_cmp other) entry.0) (Some entry.1) (found (insert_entry txn_id_cmp entries id transaction))
-                ≡ cond (is_at (txn_id_cmp other) id) (Some transaction) (cond (is_at (txn_id_cmp other) entry.0) (Some entry.1) (found entries))
+            ≡ cond (is_at (txn_id_cmp other) id) (Some transaction) (cond (is_at (txn_id_cmp other) entry.0) (Some entry.1) (found entries))
         by_tests (inl same) (inl here) =
             let e : id ≡ entry.0 = sym (same_id-true other id (sym (equal_ids other id) ∙ same)) ∙ same_id-true other entry.0 (sym (equal_ids other entry.0) ∙ here) in
             absurd (both_ways _ (two_ids id entry.0 is) (same_id-from id entry.0 e))

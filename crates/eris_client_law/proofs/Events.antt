@@ -1,6 +1,5 @@
 -- The events of an id after one more event. Used where a client's history is cut to one transaction.
 use Rattle.std.proofs.Common.{◌≡◌, Bool, true, false, cond, Option, Some, None, List, [], ◌∷◌, ◌++◌, refl, ap, sym, ◌∙◌, append-nil, inl, inr}
-use Rattle.std.specs.List.{filter}
 use Rattle.std.specs.Prelude.{⊤}
 use Rattle.std.proofs.lemmas.List.Elements.{filter-append}
 use Rattle.eris_base.specs.declared.ids.TxnId.{TxnId}

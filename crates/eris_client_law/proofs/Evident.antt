@@ -1,9 +1,8 @@
 -- WHERE WHAT A CLIENT COUNTED WAS SAID over an order of packets, each of its events is counted as evidence asks. Used where
 -- the protocol's half of the law meets the meaning's.
-use Rattle.std.proofs.Common.{◌≡◌, ◌≤◌, ℕ, zero, suc, Bool, true, false, cond, ◌||◌, ◌==◌, Option, Some, None, unwrap_or, List, [], ◌∷◌, refl, ap, sym, ◌∙◌, subst, inl, inr, arith}
-use Rattle.std.specs.Prelude.{is_some}
+use Rattle.std.proofs.Common.{◌≡◌, ◌≤◌, ℕ, zero, suc, Bool, true, ◌||◌, Option, Some, unwrap_or, List, [], ◌∷◌, refl, ap, sym, ◌∙◌, subst, inl, inr, arith}
+use Rattle.std.specs.Prelude.{◌⊎◌, is_some}
 use Rattle.std.proofs.lemmas.Bool.{cond_both, eq-eqb}
-use Rattle.eris_base.specs.declared.ids.ClientId.{ClientId}
 use Rattle.eris_base.specs.declared.ids.Phase.{Phase}
 use Rattle.eris_base.specs.declared.ids.ShardId.{ShardId}
 use Rattle.eris_base.specs.declared.ids.TxnId.{TxnId}
@@ -26,9 +25,13 @@ use Rattle.eris_rules.specs.ClientStates.{ClientIdentity}
 use Rattle.eris_serial.specs.Evidence.{AnswerEvidence, ByOutcome, ByRefusal, ByWhole, Counted, IsIn, OutcomeEvidence, SaidOn, WholeEvidence}
 use Rattle.eris_serial.specs.Transactions.{CanRun, takes_part}
 use Rattle.eris_serial.proofs.JoinedShares.{read_joined, whole_joined}
-use Rattle.eris_serial.proofs.Runnable.{plan_can_run, txn_can_run}
+use Rattle.eris_serial.proofs.Runnable.{Each-of, plan_can_run, txn_can_run}
 use Rattle.eris_client_law.specs.Bridges.{CountedIsSaid, IsHistoryWith}
-use Rattle.eris_client_law.specs.ClientRuns.{ClientInput, history_to}
+use Rattle.eris_client_law.specs.ClientRuns.{AbortsOthers, ClientInput, history_to}
+use Rattle.eris_base.specs.Each.{Each}
+use Rattle.eris_client_law.specs.Counts.{CountedOn}
+use Rattle.eris_client_law.proofs.Counting.{counted_later}
+use Rattle.eris_client_law.proofs.Resting.{happened}
 use Rattle.eris_client_law.specs.Courses.{events_of}
 use Rattle.eris_client_law.specs.Rests.{AllCommit, AnswerRests, EventRests, OfConclusion, OfRefusal, OfWhole, OneAborts, OutcomeRests}
 use Rattle.eris_client_law.proofs.Events.{event_there, txn_by_events}
@@ -68,8 +71,8 @@ module _ (me : ClientIdentity) (inputs : List ClientInput) (number : ℕ) (histo
         shard = first.0;
         part = part_of id plan first.0 is first.1;
         said = subst (λ (a : Answer). SaidOn first.0 id Phase.Conclude a packets) (sym own)
-          (subst (λ (p : Phase). SaidOn first.0 id p Answer.Committed packets) phase
-          (said id body first.0 Answer.Committed (all first.0 (ap (λ (l : List Key). any_on l first.0) keys ∙ first.1))));
+            (subst (λ (p : Phase). SaidOn first.0 id p Answer.Committed packets) phase
+            (said id body first.0 Answer.Committed (all first.0 (ap (λ (l : List Key). any_on l first.0) keys ∙ first.1))));
       }
   outcome_said id plan body outcome is keys phase (OneAborts own shard part on others) =
       record {
@@ -85,8 +88,8 @@ module _ (me : ClientIdentity) (inputs : List ClientInput) (number : ℕ) (histo
       let is = txn_there id (Whole rests.operations) [] rests.events_are in
       ByWhole (subst (λ (a : Answer). WholeEvidence (txn_of history) id a packets) (sym rests.answer_is)
       (whole_joined (txn_of history) id rests.operations rests.given rests.answers packets is
-        (subst CanRun is (txn_can_run history id with.well (ap (λ (found : Option Txn). is_some found) (found_is id (Whole rests.operations) [] rests.events_are))))
-        rests.joined (λ shard part. said id _ shard _ (rests.counted shard (ap (λ (t : Txn). takes_part shard t) (sym is) ∙ part)))))
+      (subst CanRun is (txn_can_run history id with.well (ap (λ (found : Option Txn). is_some found) (found_is id (Whole rests.operations) [] rests.events_are))))
+      rests.joined (λ shard part. said id _ shard _ (rests.counted shard (ap (λ (t : Txn). takes_part shard t) (sym is) ∙ part)))))
   answer_counted id answer (OfRefusal rests) =
       let is = txn_there id (General rests.plan) [] rests.events_are in
       ByRefusal (record {
@@ -102,7 +105,7 @@ module _ (me : ClientIdentity) (inputs : List ClientInput) (number : ℕ) (histo
       ByOutcome (record {
         values = rests.values;
         read = with.events (Read id rests.values) (event_stays me inputs number (suc number) (omega arith) (Read id rests.values)
-          (event_there id (history_to me inputs number) (Read id rests.values) (subst (λ (l : List HistoryEvent). IsIn (Read id rests.values) l) (sym rests.events_are) (inr (inl refl)))));
+            (event_there id (history_to me inputs number) (Read id rests.values) (subst (λ (l : List HistoryEvent). IsIn (Read id rests.values) l) (sym rests.events_are) (inr (inl refl)))));
         outcome = outcome_said id rests.plan _ answer is (conclusion_keys rests.plan rests.values) (conclusion_phase rests.plan rests.values) rests.rests;
       })
 
@@ -117,3 +120,36 @@ module _ (me : ClientIdentity) (inputs : List ClientInput) (number : ℕ) (histo
   event_counted (Told asker id answer) rests =
       let general = with.aborted id rests.keys rests.called in
       outcome_said id general.0 (Abort rests.keys) answer general.1 general.2 refl rests.rests
+
+-- ---- of the whole history
+last : (j k : ℕ) → j ≤ suc k → (j ≤ k) ⊎ (j ≡ suc k)
+last j k h = grind arith
+
+-- a shard that was counted stays so
+counted_stays : (me : ClientIdentity) (inputs : List ClientInput) (id : TxnId) (body : Body) (shard : ShardId) (answer : Answer) (early late : ℕ) → early ≤ late
+    → CountedOn me inputs early id body shard answer → CountedOn me inputs late id body shard answer
+counted_stays me inputs id body shard answer early zero h on =
+    let is : early ≡ 0 = omega arith in subst (λ (n : ℕ). CountedOn me inputs n id body shard answer) is on
+counted_stays me inputs id body shard answer early (suc late) h on =
+    elim (last early late h) [
+      | inl before ↦ counted_later me inputs late id body shard answer (counted_stays me inputs id body shard answer early late before on)
+      | inr same ↦ subst (λ (n : ℕ). CountedOn me inputs n id body shard answer) same on
+    ]
+
+history_early : (me : ClientIdentity) (inputs : List ClientInput) (early late : ℕ) (history : List HistoryEvent) → early ≤ late → IsHistoryWith me inputs late history → IsHistoryWith me inputs early history
+history_early me inputs early late history h with =
+    record {
+      events = λ event there. with.events event (event_stays me inputs early late h event there);
+      submits = λ id txn is. with.submits id txn (submit_stays me inputs early late h id txn is);
+      well = with.well;
+      aborted = λ id keys called. with.aborted id keys (record { at = called.at; before = omega (arith, h, called.before); called = called.called });
+    }
+
+-- EVERY EVENT OF THE CLIENT IS COUNTED
+pub history_counted : (me : ClientIdentity) (inputs : List ClientInput) → AbortsOthers me inputs → (number : ℕ) (history : List HistoryEvent) (packets : List Packet) → IsHistoryWith me inputs number history
+    → CountedIsSaid me inputs number packets → Each (Counted history packets) (history_to me inputs number)
+history_counted me inputs others number history packets with said =
+    Each-of (Counted history packets) (history_to me inputs number)
+    (λ event there. let so = happened me inputs others number event there in
+    event_counted me inputs so.at history packets (history_early me inputs (suc so.at) number history so.before with)
+    (λ id body shard answer on. said id body shard answer (counted_stays me inputs id body shard answer (suc so.at) number so.before on)) event so.rests)

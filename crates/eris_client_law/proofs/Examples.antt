@@ -1,6 +1,6 @@
 -- Courses of a client, computed: a transfer over two shards is read, committed and answered; an abort of another's
 -- transaction is told.
-use Rattle.std.specs.Prelude.{◌≡◌, ℕ, Some, None, List, [], ◌∷◌, refl}
+use Rattle.std.specs.Prelude.{◌≡◌, ℕ, Some, List, [], ◌∷◌, refl}
 use Rattle.eris_base.specs.declared.ids.ClientId.{ClientId}
 use Rattle.eris_base.specs.declared.ids.Phase.{Phase}
 use Rattle.eris_base.specs.declared.ids.ReplicaId.{ReplicaId}
@@ -17,6 +17,8 @@ use Rattle.eris_txn.specs.declared.plan.How.TheVariants.{Minus, Plus}
 use Rattle.eris_txn.specs.Keys.{same_key}
 use Rattle.eris_epoch.specs.SamePackets.{same_list, same_place_on, same_stamp}
 use Rattle.eris_txn.specs.declared.lock.Mode.TheVariants.{Exclusive}
+use Rattle.eris_txn.specs.declared.op.Op.TheVariants.{Put}
+use Rattle.eris_txn.specs.declared.op.OpAnswer.TheVariants.{Done}
 use Rattle.eris_txn.specs.declared.txn.Txn.{Txn}
 use Rattle.eris_txn.specs.PlanValues.{PlanValue}
 use Rattle.eris_msg.specs.declared.message.Message.{Message}
@@ -118,3 +120,27 @@ abort_history = refl
 abort_sent : sent_to (me 1) aborts 5 ≡ ask_for (me 1) (txn 0 1) (Abort (a ∷ b ∷ [])) ∷ ask_for (me 1) (txn 0 1) (Abort (a ∷ b ∷ [])) ∷ []
 unfolding all_of_client
 abort_sent = refl
+
+-- VOTES OF TWO VIEWS don't add up: a Vouch in view 0 and the Reply of view 1 count nothing, and the Reply of view 0 does
+abbrev of_three : ClientIdentity
+of_three = record { config = record { shards = 1; f = 1; clients = 1 }; client = client 0 }
+
+abbrev one_place : Stamp
+one_place = record { epoch = record { 0 = 0 }; places = (shard 0, 1) ∷ [] }
+
+abbrev put_one : List ClientInput
+put_one =
+    Submits (Txn.Whole (Put a 7 ∷ []))
+    ∷ Gets (Message.Vouch (record { 0 = 0 }) (shard 0) (replica 1) one_place (txn 0 1) Phase.Whole)
+    ∷ Gets (Message.Reply (record { 0 = 1 }) (shard 0) (replica 1) one_place (txn 0 1) Phase.Whole (Answer.Ops (Done ∷ [])))
+    ∷ Gets (Message.Vouch (record { 0 = 0 }) (shard 0) (replica 1) one_place (txn 0 1) Phase.Whole)
+    ∷ Gets (Message.Reply (record { 0 = 0 }) (shard 0) (replica 0) one_place (txn 0 1) Phase.Whole (Answer.Ops (Done ∷ [])))
+    ∷ []
+
+not_yet : history_to of_three put_one 4 ≡ history.Submit (txn 0 1) (Txn.Whole (Put a 7 ∷ [])) ∷ []
+unfolding all_of_client
+not_yet = refl
+
+answered : history_to of_three put_one 5 ≡ history.Submit (txn 0 1) (Txn.Whole (Put a 7 ∷ [])) ∷ history.Answer (txn 0 1) (Answer.Ops (Done ∷ [])) ∷ []
+unfolding all_of_client
+answered = refl

@@ -1,18 +1,17 @@
 -- The next id of a client is new to it. Used where it submits.
-use Rattle.std.proofs.Common.{◌≡◌, ◌≤◌, ◌+◌, ℕ, zero, suc, ◌==◌, Bool, true, false, Option, Some, None, List, [], ◌∷◌, refl, ap, sym, ◌∙◌, subst, arith, inl, inr}
+use Rattle.std.proofs.Common.{◌≡◌, ◌≤◌, ◌+◌, ℕ, zero, suc, true, false, Option, Some, None, List, refl, ap, sym, ◌∙◌, arith, inl, inr}
 use Rattle.std.specs.Prelude.{◌⊎◌, slice_get, ⊤}
-use Rattle.std.proofs.lemmas.Bool.{both_ways, cases_Bool, eqb-true, eq-eqb}
+use Rattle.std.proofs.lemmas.Bool.{both_ways, cases_Bool, eq-eqb}
 use Rattle.eris_base.specs.declared.ids.TxnId.{TxnId}
 use Rattle.eris_base.specs.TxnIds.{same_id}
 use Rattle.eris_base.proofs.TxnIdLaws.{same_id-true}
-use Rattle.eris_txn.specs.declared.key.Key.{Key}
 use Rattle.eris_rules.specs.declared.transaction.Transaction.{Transaction}
 use Rattle.eris_rules.specs.Clients.{begins_half, concludes, finishes, has_concluded, is_executed, is_told, own_id, submit}
 use Rattle.eris_rules.specs.ClientStates.{ClientIdentity, ClientState, ClientOut, first_client, next_id, transaction_at, with_transaction}
 use Rattle.eris_client_law.specs.ClientRuns.{AbortsOthers, Aborts, ClientInput, Gets, Retries, Submits, moment, perhaps}
 use Rattle.eris_client_law.specs.Courses.{IsOfAnother}
 use Rattle.eris_client_law.proofs.Entries.{found_other}
-use Rattle.eris_client_law.proofs.Steps.{AsksAgain, Begins, BeginsAbort, Concludes, Executes, Heard, Leaf, Nothing, Reads, Refuses, Tells, WaitsOn, leaf}
+use Rattle.eris_client_law.proofs.Steps.{AsksAgain, Begins, BeginsAbort, Concludes, Executes, Leaf, Nothing, Reads, Refuses, Tells, WaitsOn, leaf}
 
 -- no transaction of a number that isn't submitted
 abbrev pub IsFresh : ClientIdentity → ClientState → Type 0

@@ -5,13 +5,12 @@ use Rattle.std.specs.Prelude.{slice_get}
 use Rattle.std.specs.List.{range_with_len}
 use Rattle.std.proofs.lemmas.List.FromFn.{map-range_with_len_more}
 use Rattle.eris_base.specs.declared.ids.TxnId.{TxnId}
-use Rattle.eris_txn.specs.declared.answer.Answer.{Answer}
 use Rattle.eris_txn.specs.declared.history.HistoryEvent.{HistoryEvent}
 use Rattle.eris_txn.specs.declared.history.HistoryEvent.TheVariants.{Submit, Read, Answer as Answered, Told}
 use Rattle.eris_rules.specs.Clients.{begins_half, concludes, finishes, has_concluded, is_executed, is_told, own_id, submit}
 use Rattle.eris_rules.specs.ClientStates.{ClientIdentity, ClientOut, ClientState, first_client, with_transaction}
 use Rattle.eris_rules.specs.Worlds.{with_event}
-use Rattle.eris_client_law.specs.ClientRuns.{ClientInput, history_to, moment, perhaps, step_at}
+use Rattle.eris_client_law.specs.ClientRuns.{ClientInput, history_to, moment, perhaps}
 use Rattle.eris_client_law.specs.Courses.{submitted_ids}
 use Rattle.eris_client_law.proofs.Steps.{AsksAgain, Begins, BeginsAbort, Concludes, Executes, Leaf, Nothing, Reads, Refuses, Tells, WaitsOn, leaf}
 

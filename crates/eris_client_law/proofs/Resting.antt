@@ -1,10 +1,9 @@
 -- WHAT EACH EVENT OF A CLIENT RESTS ON: counted shards, joined answers, and the events before it. Used where evidence is
 -- made for a history.
-use Rattle.std.proofs.Common.{◌≡◌, ◌≤◌, ◌+◌, ℕ, zero, suc, ◌==◌, Bool, true, false, cond, Option, Some, None, List, [], ◌∷◌, ◌++◌, map, refl, ap, sym, ◌∙◌, subst, arith, inl, inr}
+use Rattle.std.proofs.Common.{◌≡◌, ◌+◌, ℕ, zero, suc, true, Option, Some, None, List, [], ◌∷◌, ◌++◌, refl, ap, sym, ◌∙◌, subst, arith, inl, inr}
 use Rattle.std.specs.Prelude.{◌⊎◌, slice_get, ⊤}
 use Rattle.std.proofs.lemmas.Bool.{cond_both}
 use Rattle.eris_base.specs.declared.ids.TxnId.{TxnId}
-use Rattle.eris_txn.specs.declared.answer.Answer.{Answer}
 use Rattle.eris_txn.specs.declared.body.Body.{Body}
 use Rattle.eris_txn.specs.declared.body.Body.TheVariants.{Abort, Commit}
 use Rattle.eris_txn.specs.declared.history.HistoryEvent.{HistoryEvent}
@@ -13,14 +12,13 @@ use Rattle.eris_txn.specs.Plans.{guards_hold, value_in, writes_from}
 use Rattle.eris_general.specs.Outcomes.{conclusion_of, outcome_of}
 use Rattle.eris_locks.specs.States.{is_conclusory}
 use Rattle.eris_rules.specs.declared.transaction.Course.TheVariants.{Executing, Reading, Concluding, Aborting}
-use Rattle.eris_rules.specs.declared.transaction.Transaction.{Transaction}
-use Rattle.eris_rules.specs.Clients.{all_op_answers, all_values, answer_of_shard, answers_counted, begins_half, concludes, finishes, has_concluded, is_executed, is_told, op_answers_in, submit, values_in}
+use Rattle.eris_rules.specs.Clients.{all_op_answers, answer_of_shard, answers_counted, begins_half, concludes, finishes, has_concluded, is_executed, is_told, op_answers_in, submit, values_in}
 use Rattle.eris_rules.specs.ClientStates.{ClientIdentity, ClientOut, ClientState, body_of, next_id, transaction_at}
 use Rattle.eris_rules.specs.Worlds.{with_event}
 use Rattle.eris_serial.specs.Evidence.{IsIn}
 use Rattle.eris_client_law.specs.ClientRuns.{AbortsOthers, ClientInput, history_to, moment, perhaps, step_at}
 use Rattle.eris_client_law.specs.Courses.{StandsAt, events_of}
-use Rattle.eris_client_law.specs.Rests.{ConclusionRests, EventRests, HappenedSo, OfConclusion, OfRefusal, OfWhole, OutcomeRests}
+use Rattle.eris_client_law.specs.Rests.{EventRests, HappenedSo, OfConclusion, OfRefusal, OfWhole, OutcomeRests}
 use Rattle.eris_client_law.proofs.Completing.{ops_counted, outcome_counted, refused_counted, values_counted}
 use Rattle.eris_client_law.proofs.Fresh.{IsFresh, fresh_at}
 use Rattle.eris_client_law.proofs.Standing.{answers_joined, counted_half, heard_stands, none_yet, of_known, read_joined, so_far_of, stands_at, whole_half}
@@ -65,13 +63,13 @@ module _ (me : ClientIdentity) (inputs : List ClientInput) (number : ℕ) where
         answer_is = refl;
         joined = answers_joined me inputs (suc number) id (events id) after stands.0 whole operations is;
         counted = λ shard part. ops_counted me inputs (suc number) id after.counted operations
-          (counted_half me inputs (suc number) id (events id) after (Executing operations) is stands.0) (whole_half after (Executing operations) is whole) shard part;
+            (counted_half me inputs (suc number) id (events id) after (Executing operations) is stands.0) (whole_half after (Executing operations) is whole) shard part;
       })
   rests _ _ given fresh known (Refuses message id before after heard whole plan is some) =
       let stands = heard_stands me inputs number id message before after given heard (of_known me inputs number id before heard.waited (known id)) in
       let so_far = so_far_of me inputs (suc number) id (events id) after (Reading plan) is stands.1 stands.0 in
       let refused = refused_counted me inputs (suc number) id after.counted plan
-        (counted_half me inputs (suc number) id (events id) after (Reading plan) is stands.0) (whole_half after (Reading plan) is whole) some in
+      (counted_half me inputs (suc number) id (events id) after (Reading plan) is stands.0) (whole_half after (Reading plan) is whole) some in
       OfRefusal (record { plan = plan; own = so_far.own; events_are = so_far.events_are; answer_is = refl; shard = refused.0; part = refused.1; counted = refused.2 })
   rests _ _ given fresh known (Reads message id before after heard whole plan is none) =
       let stands = heard_stands me inputs number id message before after given heard (of_known me inputs number id before heard.waited (known id)) in
@@ -83,7 +81,7 @@ module _ (me : ClientIdentity) (inputs : List ClientInput) (number : ℕ) where
         events_are = so_far.events_are;
         joined = read_joined me inputs (suc number) id (events id) after stands.0 whole plan is none;
         counted = λ shard part. values_counted me inputs (suc number) id after.counted plan
-          (counted_half me inputs (suc number) id (events id) after (Reading plan) is stands.0) (whole_half after (Reading plan) is whole) none shard part;
+            (counted_half me inputs (suc number) id (events id) after (Reading plan) is stands.0) (whole_half after (Reading plan) is whole) none shard part;
       }
   rests _ _ given fresh known (Concludes message id before after heard whole plan body is) =
       let stands = heard_stands me inputs number id message before after given heard (of_known me inputs number id before heard.waited (known id)) in
@@ -95,7 +93,7 @@ module _ (me : ClientIdentity) (inputs : List ClientInput) (number : ℕ) where
         events_are = so_far.events_are;
         each = so_far.each;
         rests = subst (λ (b : Body). OutcomeRests me inputs number id b (outcome_of (answers_counted after))) so_far.body_is
-          (outcome_counted me inputs number id after.counted body (conclusion_concludes plan body so_far.values so_far.body_is)
+            (outcome_counted me inputs number id after.counted body (conclusion_concludes plan body so_far.values so_far.body_is)
             (counted_half me inputs (suc number) id (events id) after (Concluding plan body) is stands.0) (whole_half after (Concluding plan body) is whole));
       })
   rests _ _ given fresh known (Tells message id before after heard whole keys is) =
@@ -108,7 +106,7 @@ module _ (me : ClientIdentity) (inputs : List ClientInput) (number : ℕ) where
         called = so_far.called;
         first = so_far.events_are;
         rests = outcome_counted me inputs number id after.counted (Abort keys) refl
-          (counted_half me inputs (suc number) id (events id) after (Aborting keys) is stands.0) (whole_half after (Aborting keys) is whole);
+            (counted_half me inputs (suc number) id (events id) after (Aborting keys) is stands.0) (whole_half after (Aborting keys) is whole);
       }
 
 module _ (me : ClientIdentity) (inputs : List ClientInput) (others : AbortsOthers me inputs) where
@@ -131,11 +129,13 @@ module _ (me : ClientIdentity) (inputs : List ClientInput) (others : AbortsOther
     where
       later : HappenedSo me inputs number event → HappenedSo me inputs (suc number) event
       later h = record { at = h.at; before = omega (arith, h.before); happened = h.happened; rests = h.rests }
+
       behind : (history : List HistoryEvent) (last : HistoryEvent) → IsIn event (history ++ last ∷ []) → (IsIn event history) ⊎ (last ≡ event)
       behind [] last (inl is) = inr is
       behind [] last (inr none) = absurd none
       behind (other ∷ history) last (inl is) = inl (inl is)
       behind (other ∷ history) last (inr there) = elim (behind history last there) [ inl h ↦ inl (inr h) | inr is ↦ inr is ]
+
       by_event : (found : Option HistoryEvent) → (step_at me inputs number).event ≡ found → IsIn event (with_event (history_to me inputs number) found)
           → (IsIn event (history_to me inputs number) → HappenedSo me inputs number event) → HappenedSo me inputs (suc number) event
       by_event None is there before = later (before there)

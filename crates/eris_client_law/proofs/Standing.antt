@@ -1,9 +1,9 @@
 -- HOW FAR EACH TRANSACTION IS at each moment of a client's course: of its own, the events of its id are exactly those
 -- of its course; every vote and every counted shard rests on messages that came. Everything else follows from this.
-use Rattle.std.proofs.Common.{◌≡◌, ◌≤◌, ◌+◌, ℕ, zero, suc, ◌==◌, Bool, true, false, cond, Option, Some, None, List, [], ◌∷◌, ◌++◌, map, refl, ap, sym, ◌∙◌, subst, arith, inl, inr}
+use Rattle.std.proofs.Common.{◌≡◌, ◌+◌, ℕ, zero, suc, Bool, true, false, Option, Some, None, List, [], ◌∷◌, ◌++◌, refl, ap, sym, ◌∙◌, subst, arith, inl, inr}
 use Rattle.std.specs.Prelude.{◌⊎◌, slice_get}
 use Rattle.std.specs.List.{list_all, list_any}
-use Rattle.std.proofs.lemmas.Bool.{both_ways, cases_Bool, cond_both}
+use Rattle.std.proofs.lemmas.Bool.{cases_Bool, cond_both}
 use Rattle.eris_base.specs.declared.ids.ShardId.{ShardId}
 use Rattle.eris_base.specs.declared.ids.TxnId.{TxnId}
 use Rattle.eris_base.specs.Each.{Each}
@@ -11,19 +11,16 @@ use Rattle.eris_base.specs.TxnIds.{same_id}
 use Rattle.eris_base.proofs.Each.{Each-weaker}
 use Rattle.eris_base.proofs.TxnIdLaws.{same_id-true, same_id-turned}
 use Rattle.eris_txn.specs.declared.answer.Answer.{Answer}
-use Rattle.eris_txn.specs.declared.body.Body.{Body}
-use Rattle.eris_txn.specs.declared.body.Body.TheVariants.{Independent, Prelim}
 use Rattle.eris_txn.specs.declared.history.HistoryEvent.{HistoryEvent}
 use Rattle.eris_txn.specs.declared.history.HistoryEvent.TheVariants.{Submit, Read, Answer as Answered, Told}
 use Rattle.eris_txn.specs.declared.key.Key.{Key}
 use Rattle.eris_txn.specs.declared.op.Op.{Op}
-use Rattle.eris_txn.specs.declared.op.OpAnswer.{OpAnswer}
 use Rattle.eris_txn.specs.declared.txn.Txn.{Txn}
 use Rattle.eris_txn.specs.declared.txn.Txn.TheVariants.{Whole, General}
 use Rattle.eris_txn.specs.Bodies.{any_on, keys_of, participants_of}
 use Rattle.eris_txn.specs.Operations.{key_of}
 use Rattle.eris_txn.specs.PlanValues.{PlanValue}
-use Rattle.eris_txn.specs.Plans.{locks_of, value_in}
+use Rattle.eris_txn.specs.Plans.{value_in}
 use Rattle.eris_general.specs.Outcomes.{conclusion_of, is_aborted, outcome_of}
 use Rattle.eris_msg.specs.declared.message.Message.{Message}
 use Rattle.eris_rules.specs.declared.transaction.Course.{Course}
@@ -34,12 +31,11 @@ use Rattle.eris_rules.specs.ClientStates.{ClientIdentity, ClientOut, ClientState
 use Rattle.eris_rules.specs.Votes.{is_complete, is_counted}
 use Rattle.eris_rules.specs.Worlds.{with_event}
 use Rattle.eris_serial.specs.Joining.{IsJoined}
-use Rattle.eris_serial.specs.Shares.{OneForEach}
-use Rattle.eris_client_law.specs.ClientRuns.{AbortsOthers, Aborts, ClientInput, Gets, Submits, WasCalledToAbort, history_to, moment, perhaps}
-use Rattle.eris_client_law.specs.Counts.{CameFor, CountedOn, IsVoteFor}
-use Rattle.eris_client_law.specs.Courses.{IsAborting, IsOutcome, IsSoFar, Stands, StandsAt, events_of, id_of}
+use Rattle.eris_client_law.specs.ClientRuns.{AbortsOthers, ClientInput, Gets, WasCalledToAbort, history_to, moment, perhaps}
+use Rattle.eris_client_law.specs.Counts.{CountedOn, IsVoteFor}
+use Rattle.eris_client_law.specs.Courses.{IsOutcome, IsSoFar, Stands, StandsAt, events_of, id_of}
 use Rattle.eris_client_law.proofs.Completing.{counted_there, ops_joined, values_joined}
-use Rattle.eris_client_law.proofs.Counting.{StillOpen, counted_later, heard, vote_later}
+use Rattle.eris_client_law.proofs.Counting.{counted_later, heard, vote_later}
 use Rattle.eris_client_law.proofs.Entries.{found_other, found_put}
 use Rattle.eris_client_law.proofs.Events.{IsEventOf, events-other, events-own}
 use Rattle.eris_client_law.proofs.Fresh.{IsFair, IsFresh, fair, fresh_at}
@@ -85,16 +81,18 @@ module _ (me : ClientIdentity) (inputs : List ClientInput) (number : ℕ) (id : 
       → Stands me inputs number id (events_of id (history_to me inputs number)) before → Stands me inputs (suc number) id (events_of id (history_to me inputs number)) after × (after.finished ≡ false)
   heard_stands message before after given h stands =
       let still = heard me inputs (suc number) id before message after
-        (record { at = number; before = omega arith; given = given; in_place = h.in_place; transaction = before; waited = h.waited; unfinished = h.unfinished; same_half = refl })
-        (votes_later before stands.votes) (counts_later before stands.counted) h.hears in
-      let events = events_of id (history_to me inputs number) in
-      (record {
-        so_far =
-          subst (λ (course : Course). IsSoFar me inputs (suc number) id events course after.finished) (sym still.course_is)
-          (subst (λ (finished : Bool). IsSoFar me inputs (suc number) id events before.course finished) (sym still.finished_is) (so_far_later events before.course before.finished stands.so_far));
-        votes = subst (λ (course : Course). Each (IsVoteFor me inputs (suc number) id (body_of course)) after.votes) (sym still.course_is) still.votes;
-        counted = subst (λ (course : Course). Each (λ pair. CountedOn me inputs (suc number) id (body_of course) pair.0 pair.1) after.counted) (sym still.course_is) still.counted;
-      }, still.finished_is ∙ h.unfinished)
+      (record { at = number; before = omega arith; given = given; in_place = h.in_place; transaction = before; waited = h.waited; unfinished = h.unfinished; same_half = refl })
+      (votes_later before stands.votes) (counts_later before stands.counted) h.hears in
+      let events = events_of id (history_to me inputs number) in (
+        record {
+          so_far =
+              subst (λ (course : Course). IsSoFar me inputs (suc number) id events course after.finished) (sym still.course_is)
+              (subst (λ (finished : Bool). IsSoFar me inputs (suc number) id events before.course finished) (sym still.finished_is) (so_far_later events before.course before.finished stands.so_far));
+          votes = subst (λ (course : Course). Each (IsVoteFor me inputs (suc number) id (body_of course)) after.votes) (sym still.course_is) still.votes;
+          counted = subst (λ (course : Course). Each (λ pair. CountedOn me inputs (suc number) id (body_of course) pair.0 pair.1) after.counted) (sym still.course_is) still.counted;
+        },
+        still.finished_is ∙ h.unfinished,
+      )
 
   -- how far an unfinished one of this course is
   pub so_far_of : (events : List HistoryEvent) (transaction : Transaction) (course : Course) → transaction.course ≡ course → transaction.finished ≡ false
@@ -213,18 +211,18 @@ module _ (me : ClientIdentity) (inputs : List ClientInput) (number : ℕ) where
       let event = Answered id (Answer.Ops (all_op_answers (body_of after.course) after.counted)) in
       puts now id (record after { finished = true }) _ (Some event) refl refl
       (finished_stands me inputs (suc number) id (events_of id history) _ after (Executing operations) is stands.0
-        (record {
-          own = so_far.own;
-          answers = all_op_answers (body_of after.course) after.counted;
-          events_are = more id event (Submit id (Whole operations) ∷ []) refl so_far.events_are;
-          each = (answers_joined me inputs (suc number) id (events_of id history) after stands.0 whole operations is).each;
-        }))
+      (record {
+        own = so_far.own;
+        answers = all_op_answers (body_of after.course) after.counted;
+        events_are = more id event (Submit id (Whole operations) ∷ []) refl so_far.events_are;
+        each = (answers_joined me inputs (suc number) id (events_of id history) after stands.0 whole operations is).each;
+      }))
   changes _ _ given f fresh known (Refuses message id before after heard whole plan is some) =
       let stands = heard_stands me inputs number id message before after given heard (of_known id before heard.waited (known id)) in
       let so_far = so_far_of me inputs (suc number) id (events_of id history) after (Reading plan) is stands.1 stands.0 in
       puts now id (record after { finished = true }) _ (Some (Answered id Answer.Aborted)) refl refl
       (finished_stands me inputs (suc number) id (events_of id history) _ after (Reading plan) is stands.0
-        (record { own = so_far.own; events_are = more id (Answered id Answer.Aborted) (Submit id (General plan) ∷ []) refl so_far.events_are }))
+      (record { own = so_far.own; events_are = more id (Answered id Answer.Aborted) (Submit id (General plan) ∷ []) refl so_far.events_are }))
   changes _ _ given f fresh known (Reads message id before after heard whole plan is none) =
       let stands = heard_stands me inputs number id message before after given heard (of_known id before heard.waited (known id)) in
       let so_far = so_far_of me inputs (suc number) id (events_of id history) after (Reading plan) is stands.1 stands.0 in
@@ -247,28 +245,28 @@ module _ (me : ClientIdentity) (inputs : List ClientInput) (number : ℕ) where
       let outcome = outcome_of (answers_counted after) in
       puts now id (record after { finished = true }) _ (Some (Answered id outcome)) refl refl
       (finished_stands me inputs (suc number) id (events_of id history) _ after (Concluding plan body) is stands.0
-        (record {
-          own = so_far.own;
-          values = so_far.values;
-          outcome = outcome;
-          events_are = more id (Answered id outcome) (Submit id (General plan) ∷ Read id so_far.values ∷ []) refl so_far.events_are;
-          each = so_far.each;
-          body_is = so_far.body_is;
-          is_outcome = outcome_is (answers_counted after);
-        }))
+      (record {
+        own = so_far.own;
+        values = so_far.values;
+        outcome = outcome;
+        events_are = more id (Answered id outcome) (Submit id (General plan) ∷ Read id so_far.values ∷ []) refl so_far.events_are;
+        each = so_far.each;
+        body_is = so_far.body_is;
+        is_outcome = outcome_is (answers_counted after);
+      }))
   changes _ _ given f fresh known (Tells message id before after heard whole keys is) =
       let stands = heard_stands me inputs number id message before after given heard (of_known id before heard.waited (known id)) in
       let so_far = so_far_of me inputs (suc number) id (events_of id history) after (Aborting keys) is stands.1 stands.0 in
       let outcome = outcome_of (answers_counted after) in
       puts now id (record after { finished = true }) _ (Some (Told me.client id outcome)) refl refl
       (finished_stands me inputs (suc number) id (events_of id history) _ after (Aborting keys) is stands.0
-        (record {
-          another = so_far.another;
-          called = so_far.called;
-          outcome = outcome;
-          events_are = more id (Told me.client id outcome) [] refl so_far.events_are;
-          is_outcome = outcome_is (answers_counted after);
-        }))
+      (record {
+        another = so_far.another;
+        called = so_far.called;
+        outcome = outcome;
+        events_are = more id (Told me.client id outcome) [] refl so_far.events_are;
+        is_outcome = outcome_is (answers_counted after);
+      }))
 
   -- what stood of every id stands behind the step
   next : (out : ClientOut) → ((id : TxnId) → Known id) → Changes me inputs number out → (id : TxnId) → StandsAt me inputs (suc number) id (events_of id (with_event history out.event)) (transaction_at out.state id)
@@ -285,8 +283,8 @@ module _ (me : ClientIdentity) (inputs : List ClientInput) (number : ℕ) where
       by_test (inr apart) =
           subst (StandsAt me inputs (suc number) id (events_of id (with_event history out.event))) (sym (put.apart id apart))
           (subst (λ (events : List HistoryEvent). StandsAt me inputs (suc number) id events (transaction_at now id))
-            (sym (events-other own id history out.event put.event_of (same_id-turned own id ∙ apart)))
-            (stands_later me inputs number id (events_of id history) (transaction_at now id) (known id)))
+          (sym (events-other own id history out.event put.event_of (same_id-turned own id ∙ apart)))
+          (stands_later me inputs number id (events_of id history) (transaction_at now id) (known id)))
 
 module _ (me : ClientIdentity) (inputs : List ClientInput) (others : AbortsOthers me inputs) where
   stands_perhaps : (number : ℕ) (found : Option ClientInput) → slice_get inputs number ≡ found → ((id : TxnId) → StandsAt me inputs number id (events_of id (history_to me inputs number)) (transaction_at (moment me inputs number) id))

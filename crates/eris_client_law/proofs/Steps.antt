@@ -1,5 +1,5 @@
 -- Each row of the client's table, once: what a step can be. Used by every law of a client's course.
-use Rattle.std.proofs.Common.{◌≡◌, ℕ, ◌+◌, Bool, true, false, cond, not, ◌&&◌, Option, Some, None, List, [], ◌∷◌, refl, ap, sym, ◌∙◌, subst}
+use Rattle.std.proofs.Common.{◌≡◌, ℕ, Bool, true, false, not, ◌&&◌, Option, Some, None, List, [], ◌∷◌, refl, ap}
 use Rattle.std.specs.Prelude.{if◌then◌else◌}
 use Rattle.std.specs.List.{list_any}
 use Rattle.std.proofs.lemmas.Bool.{cond_both, and_parts, not-true}
@@ -10,7 +10,6 @@ use Rattle.eris_base.specs.declared.ids.TxnId.{TxnId}
 use Rattle.eris_txn.specs.declared.answer.Answer.{Answer}
 use Rattle.eris_txn.specs.declared.history.HistoryEvent.{HistoryEvent}
 use Rattle.eris_txn.specs.declared.body.Body.{Body}
-use Rattle.eris_txn.specs.declared.body.Body.TheVariants.{Independent, Prelim, Commit, Abort}
 use Rattle.eris_txn.specs.declared.key.Key.{Key}
 use Rattle.eris_txn.specs.declared.op.Op.{Op}
 use Rattle.eris_txn.specs.declared.txn.Txn.{Txn}
@@ -23,7 +22,7 @@ use Rattle.eris_rules.specs.declared.transaction.Course.TheVariants.{Executing, 
 use Rattle.eris_rules.specs.declared.transaction.Transaction.{Transaction}
 use Rattle.eris_rules.specs.declared.transaction.Vote.{Vote}
 use Rattle.eris_rules.specs.Clients.{idle, ask_for, begins_half, submit, asks_again, retries, own_id, retry, aborts, abort, finishes, all_values, answers_counted, is_executed, concludes, has_read, has_concluded, is_told, completes, goes_on, hears_vote_of, hears_vote, vote_row, hears_late_of, hears_late, late_row, client_takes, client_step}
-use Rattle.eris_rules.specs.ClientStates.{ClientIdentity, ClientState, ClientOut, transaction_at, with_transaction, body_of, course_of, next_id}
+use Rattle.eris_rules.specs.ClientStates.{ClientIdentity, ClientState, ClientOut, transaction_at, with_transaction, body_of}
 use Rattle.eris_rules.specs.InPlace.{is_in_place_at_client}
 use Rattle.eris_rules.specs.Votes.{vote_fits, late_fits, waits_for, with_vote, with_late, is_complete}
 use Rattle.eris_client_law.specs.ClientRuns.{ClientInput, Submits, Retries, Aborts, Gets, client_does}
@@ -125,9 +124,9 @@ module _ (me : ClientIdentity) (state : ClientState) where
   of_vote id phase vote (Some transaction) known place =
       choose (Gets (message_of vote id phase)) (waits_for transaction phase && vote_fits me.config.f (body_of transaction.course) vote) _ _
       (λ h. let parts = and_parts (waits_for transaction phase) (vote_fits me.config.f (body_of transaction.course) vote) h in
-        let waits = waiting transaction phase parts.0 in
-        goes (message_of vote id phase) id transaction (with_vote me.config.f transaction vote)
-        (record { in_place = place; waited = known; unfinished = waits.0; hears = Votes vote (ap (λ (p : Phase). message_of vote id p) waits.1) parts.1 }))
+      let waits = waiting transaction phase parts.0 in
+      goes (message_of vote id phase) id transaction (with_vote me.config.f transaction vote)
+      (record { in_place = place; waited = known; unfinished = waits.0; hears = Votes vote (ap (λ (p : Phase). message_of vote id p) waits.1) parts.1 }))
       (λ h. Nothing _)
 
   of_late : (id : TxnId) (phase : Phase) (shard : ShardId) (replica : ReplicaId) (answer : Answer) (found : Option Transaction) → transaction_at state id ≡ found
@@ -138,9 +137,9 @@ module _ (me : ClientIdentity) (state : ClientState) where
   of_late id phase shard replica answer (Some transaction) known place =
       choose (Gets (Message.Late shard replica id phase answer)) (waits_for transaction phase && late_fits (body_of transaction.course) shard answer) _ _
       (λ h. let parts = and_parts (waits_for transaction phase) (late_fits (body_of transaction.course) shard answer) h in
-        let waits = waiting transaction phase parts.0 in
-        goes (Message.Late shard replica id phase answer) id transaction (with_late transaction shard answer)
-        (record { in_place = place; waited = known; unfinished = waits.0; hears = Lates shard replica answer (ap (λ (p : Phase). Message.Late shard replica id p answer) waits.1) parts.1 }))
+      let waits = waiting transaction phase parts.0 in
+      goes (Message.Late shard replica id phase answer) id transaction (with_late transaction shard answer)
+      (record { in_place = place; waited = known; unfinished = waits.0; hears = Lates shard replica answer (ap (λ (p : Phase). Message.Late shard replica id p answer) waits.1) parts.1 }))
       (λ h. Nothing _)
 
   of_message : (message : Message) → is_in_place_at_client me.config message ≡ true → Leaf me state (Gets message) (client_takes me state message)

@@ -8,6 +8,7 @@ ghost use Rattle.eris_txn.specs.declared.answer.Answer.{Answer};
 ghost use Rattle.eris_txn.specs.declared.body.Body.{Body};
 ghost use Rattle.eris_txn.specs.declared.history.HistoryEvent.{HistoryEvent};
 ghost use Rattle.eris_txn.specs.declared.op.OpAnswer.{OpAnswer};
+ghost use Rattle.eris_txn.specs.declared.packet.Packet.{Packet};
 ghost use Rattle.eris_txn.specs.declared.txn.Txn.{Txn};
 ghost use Rattle.eris_txn.specs.Bodies.{any_on, has_shard, keys_of, participants_of};
 ghost use Rattle.eris_audit.specs.Histories.{first_submit, is_submitted, txn_of};
@@ -22,9 +23,10 @@ ghost use Rattle.eris_rules.specs.ClientStates.{ClientIdentity, body_of, transac
 ghost use Rattle.eris_rules.specs.InPlace.{names_exactly};
 ghost use Rattle.eris_rules.specs.Known.{knows_replica};
 ghost use Rattle.eris_rules.specs.Votes.{is_complete, role_fits};
-ghost use Rattle.eris_serial.specs.Evidence.{BodyOrigin, HasCommitOrigin, IsIn};
+ghost use Rattle.eris_serial.specs.Evidence.{BodyOrigin, Counted, HasCommitOrigin, IsIn};
 ghost use Rattle.eris_serial.specs.Joining.{TakesInTurn};
 ghost use Rattle.eris_serial.specs.Transactions.{takes_part};
+ghost use Rattle.eris_client_law.specs.Bridges.{CountedIsSaid, IsHistoryWith};
 ghost use Rattle.eris_client_law.specs.ClientRuns.{AbortsOthers, ClientInput, history_to, moment, sent_to, step_at};
 ghost use Rattle.eris_client_law.specs.Counts.{CameFor, CountedByVotes, CountedOn, IsVoteFor};
 ghost use Rattle.eris_client_law.specs.Courses.{IsOwn, StandsAt, events_of, submitted_ids};
@@ -79,4 +81,13 @@ pub fn asks_rest()
     ensures submitted { (me : ClientIdentity) (inputs : List ClientInput) (number : ℕ) (id : TxnId) (body : Body) → AskRests me inputs number id body → IsOwn me id → IsTrue (is_submitted (history_to me inputs number) id) }
     ensures bodies { (me : ClientIdentity) (inputs : List ClientInput) (number : ℕ) (id : TxnId) (body : Body) → AskRests me inputs number id body → BodyOrigin (txn_of (history_to me inputs number) id) body }
     ensures commits { (me : ClientIdentity) (inputs : List ClientInput) (number : ℕ) (id : TxnId) (body : Body) → AskRests me inputs number id body → HasCommitOrigin (history_to me inputs number) id body }
+{}
+
+/// From what a client counted to evidence. Take a history of all clients that has what this one's has by a
+/// moment, and an order of packets over which every answer that it counted by then was said. Then each of its
+/// events is counted as evidence asks, one by one and all of its history. The call does nothing; its contract is
+/// the law.
+pub fn counted_is_evidence()
+    ensures all { (me : ClientIdentity) (inputs : List ClientInput) → AbortsOthers me inputs → (number : ℕ) (history : List HistoryEvent) (packets : List Packet) → IsHistoryWith me inputs number history → CountedIsSaid me inputs number packets → Each (Counted history packets) (history_to me inputs number) }
+    ensures counted { (me : ClientIdentity) (inputs : List ClientInput) (number : ℕ) (history : List HistoryEvent) (packets : List Packet) → IsHistoryWith me inputs (suc number) history → CountedIsSaid me inputs (suc number) packets → (event : HistoryEvent) → EventRests me inputs number event → Counted history packets event }
 {}

@@ -4,4 +4,4 @@
 
 mod law;
 
-pub use law::{asks_rest, counts_what_came, courses_stand, events_rest};
+pub use law::{asks_rest, counted_is_evidence, counts_what_came, courses_stand, events_rest};

@@ -1,4 +1,3 @@
-use Rattle.eris_rules.specs.Votes.{vote_fits}
 use Rattle.eris_client_law.proofs.Counting.{fitting_test}
 use Rattle.eris_client_law.proofs.Origins.{reply_came, voter_known}
 use Rattle.eris_client_law.proofs.Standing.{known_counted, known_votes, known_whole}
