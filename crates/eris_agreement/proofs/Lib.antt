@@ -14,3 +14,4 @@ pub mod Growth
 pub mod Reduction
 pub mod Closings
 pub mod SpokenClosed
+pub mod Locality

@@ -18,6 +18,7 @@ use Rattle.eris_log.specs.Laws.Entries.{HoldsTxn-is_txn, is_txn-entry_of}
 use Rattle.eris_drop.proofs.QuorumLaws.{quorums_meet, replica}
 use Rattle.eris_epoch.specs.declared.noted.NotedPart.{NotedPart}
 use Rattle.eris_script.specs.declared.event.Event.{Event}
+use Rattle.eris_sequencer.specs.declared.stamping.Stamping.{Stamping}
 use Rattle.eris_rules.specs.Coordinators.{left_behind}
 use Rattle.eris_rules.specs.CoordStates.{EpochCoord, begun_epoch, first_coordinator}
 use Rattle.eris_rules.specs.ReplicaStates.{EpochReplica, ReplicaState}
@@ -31,7 +32,7 @@ use Rattle.eris_epoch_law.proofs.Members.{Each-at, In-append, In-left}
 use Rattle.eris_epoch_law.proofs.Moments.{later}
 use Rattle.eris_key_law.specs.Quorums.{Reached, SpokePast}
 use Rattle.eris_key_law.proofs.KeyLemma.{no_gap, is_packet, dropped_by}
-use Rattle.eris_agreement.specs.Alone.{state_of}
+use Rattle.eris_agreement.specs.Alone.{stamping_of, state_of}
 use Rattle.eris_agreement.specs.EpochRuns.{servers_at, system_of}
 use Rattle.eris_agreement.specs.Servers.{Servers}
 use Rattle.eris_agreement.specs.WorldMoments.{moment_from}
@@ -163,3 +164,12 @@ module _ (config : ConfigValue) (events : List Event) (last : ℕ) where
   pub closed_fine : (k : ℕ) → k ≤ last → (packet : Packet) → In packet (at k).coordinator.closed → IsClosedFine k packet
   closed_fine zero le packet i = absurd (nothing_closed packet i)
   closed_fine (suc k) le packet i = by_step k le packet (closes_at config events last k) (closed_fine k (omega arith) packet) i
+
+-- the same at any moment, told of the whole run
+pub closed_below_current : (config : ConfigValue) (events : List Event) (k : ℕ) (packet : Packet) → In packet (servers_at config events k).coordinator.closed → packet.stamp.epoch.0 < (servers_at config events k).coordinator.current.0
+closed_below_current config events k packet i = (closed_fine config events k k (omega arith) packet i).below
+
+pub closed_stamped : (config : ConfigValue) (events : List Event) (k : ℕ) (packet : Packet) → In packet (servers_at config events k).coordinator.closed
+    → In packet (stamping_of config (servers_at config events k).stampings packet.stamp.epoch).stamped
+closed_stamped config events k packet i =
+    subst (λ (s : Stamping). In packet s.stamped) (is_alone config events k packet.stamp.epoch k (omega arith)).stamping (closed_fine config events k k (omega arith) packet i).stamped

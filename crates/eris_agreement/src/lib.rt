@@ -1,2 +1,6 @@
 //! What holds of every run of a whole world, over all its epochs.
 #![tactic(auto)]
+
+mod law;
+
+pub use law::{closing_keeps_what_was_spoken, each_epoch_is_a_run, epochs_never_fall, runs_have_moments};
