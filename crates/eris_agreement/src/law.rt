@@ -1,4 +1,5 @@
 ghost use Rattle.std.specs.Prelude.{◌≡◌, ◌≤◌, ◌<◌, ℕ, suc, List, ◌++◌, length, Some, IsFalse};
+ghost use Rattle.std.specs.Option.{option_map};
 ghost use Rattle.eris_base.specs.declared.ids.Epoch.{Epoch};
 ghost use Rattle.eris_base.specs.declared.ids.ReplicaId.{ReplicaId};
 ghost use Rattle.eris_base.specs.declared.ids.ShardId.{ShardId};
@@ -10,7 +11,8 @@ ghost use Rattle.eris_epoch.specs.Closing.{shard_log};
 ghost use Rattle.eris_msg.specs.declared.outgoing.Outgoing.{Outgoing};
 ghost use Rattle.eris_script.specs.declared.event.Event.{Event};
 ghost use Rattle.eris_rules.specs.Runs.{run};
-ghost use Rattle.eris_rules.specs.Worlds.{WorldState};
+ghost use Rattle.eris_rules.specs.Happenings.{happens};
+ghost use Rattle.eris_rules.specs.Worlds.{WorldState, first_world, replica_at};
 ghost use Rattle.eris_epoch_law.specs.EpochWorlds.{EpochEvent, moment};
 ghost use Rattle.eris_epoch_law.specs.Members.{In};
 ghost use Rattle.eris_epoch_law.specs.Stamped.{HasNumber};
@@ -18,6 +20,7 @@ ghost use Rattle.eris_key_law.specs.Quorums.{SpokePast};
 ghost use Rattle.eris_agreement.specs.Alone.{IsAlone, state_of, stamping_of};
 ghost use Rattle.eris_agreement.specs.ClosedBelow.{closed_below};
 ghost use Rattle.eris_agreement.specs.EpochRuns.{servers_at, system_of, IsEpochRun};
+ghost use Rattle.eris_agreement.specs.OwnSteps.{after_input, input_of, own_steps};
 ghost use Rattle.eris_agreement.specs.WorldMoments.{world_at};
 
 /// A run by its moments: where a run gives a world, it is the world after all its events, and the first events
@@ -25,6 +28,14 @@ ghost use Rattle.eris_agreement.specs.WorldMoments.{world_at};
 pub fn runs_have_moments()
     ensures last { (config : ConfigValue) (events : List Event) (world : WorldState) → run config events ≡ Some world → world ≡ world_at config events (length events) }
     ensures front { (config : ConfigValue) (front back : List Event) (world : WorldState) → run config (front ++ back) ≡ Some world → (middle : WorldState) × (run config front ≡ Some middle) }
+{}
+
+/// A replica's state is its own affair: an event changes it only by the step on the input that the event is to it,
+/// a delivered message or a timer; and after a run it is the fold of its own steps over its own inputs, whatever the
+/// other nodes did in between. The call does nothing; its contract is the law.
+pub fn replicas_are_local()
+    ensures one_event { (config : ConfigValue) (shard : ShardId) (replica : ReplicaId) (world : WorldState) (event : Event) → replica_at (happens config world event).replicas shard replica ≡ option_map (after_input config shard replica (input_of world event shard replica)) (replica_at world.replicas shard replica) }
+    ensures run { (config : ConfigValue) (shard : ShardId) (replica : ReplicaId) (events : List Event) (k : ℕ) → replica_at (world_at config events k).replicas shard replica ≡ option_map (own_steps config events shard replica k) (replica_at (first_world config).replicas shard replica) }
 {}
 
 /// Over any two moments of a run: no replica's epoch or promise falls, nor does the current epoch or the target;
