@@ -15,3 +15,4 @@ pub mod Reduction
 pub mod Closings
 pub mod SpokenClosed
 pub mod Locality
+pub mod LaterStamps
