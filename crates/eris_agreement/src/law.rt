@@ -1,12 +1,10 @@
-ghost use Rattle.std.specs.Prelude.{◌≡◌, ◌≤◌, ◌<◌, ℕ, suc, List, ◌++◌, length, Some, IsFalse};
+ghost use Rattle.std.specs.Prelude.{◌≡◌, ◌≤◌, ℕ, List, ◌++◌, length, Some};
 ghost use Rattle.std.specs.Option.{option_map};
 ghost use Rattle.eris_base.specs.declared.ids.Epoch.{Epoch};
 ghost use Rattle.eris_base.specs.declared.ids.ReplicaId.{ReplicaId};
 ghost use Rattle.eris_base.specs.declared.ids.ShardId.{ShardId};
-ghost use Rattle.eris_base.specs.declared.ids.View.{View};
 ghost use Rattle.eris_base.specs.ConfigLimits.{ConfigValue};
 ghost use Rattle.eris_txn.specs.declared.packet.Packet.{Packet};
-ghost use Rattle.eris_log.specs.Places.{any_among};
 ghost use Rattle.eris_epoch.specs.Closing.{shard_log};
 ghost use Rattle.eris_msg.specs.declared.outgoing.Outgoing.{Outgoing};
 ghost use Rattle.eris_script.specs.declared.event.Event.{Event};
@@ -15,8 +13,6 @@ ghost use Rattle.eris_rules.specs.Happenings.{happens};
 ghost use Rattle.eris_rules.specs.Worlds.{WorldState, first_world, replica_at};
 ghost use Rattle.eris_epoch_law.specs.EpochWorlds.{EpochEvent, moment};
 ghost use Rattle.eris_epoch_law.specs.Members.{In};
-ghost use Rattle.eris_epoch_law.specs.Stamped.{HasNumber};
-ghost use Rattle.eris_key_law.specs.Quorums.{SpokePast};
 ghost use Rattle.eris_agreement.specs.Alone.{IsAlone, state_of, stamping_of};
 ghost use Rattle.eris_agreement.specs.ClosedBelow.{closed_below};
 ghost use Rattle.eris_agreement.specs.EpochRuns.{servers_at, system_of, IsEpochRun};
@@ -61,14 +57,4 @@ pub fn epochs_never_fall()
 pub fn each_epoch_is_a_run()
     ensures reduction { (config : ConfigValue) (events : List Event) (last : ℕ) (epoch : Epoch) → (own : List EpochEvent) × IsEpochRun config events last epoch last own }
     ensures reached { (config : ConfigValue) (events : List Event) (k : ℕ) (epoch : Epoch) → (own : List EpochEvent) × IsAlone (system_of config events k epoch) (servers_at config events k) (moment (system_of config events k epoch) own k) }
-{}
-
-/// What was spoken past stays: take the run of an epoch that `each_epoch_is_a_run` tells of. Where a quorum of a shard
-/// spoke past a number in it, the packet there, unless a place of it is dropped, is closed once a higher epoch is
-/// current. A closed packet is of an epoch below the current one; it was stamped in that epoch, and none of its
-/// places is dropped there. The call does nothing; its contract is the law.
-pub fn closing_keeps_what_was_spoken()
-    ensures spoken { (config : ConfigValue) (events : List Event) (last : ℕ) (epoch : Epoch) → (own : List EpochEvent) × IsEpochRun config events last epoch last own × ((k : ℕ) (shard : ShardId) (view : View) (n m : ℕ) (packet : Packet) → k ≤ last → SpokePast (system_of config events last epoch) own k shard view n → 1 ≤ m → m ≤ n → shard.0 < config.shards → In packet (moment (system_of config events last epoch) own k).stamping.stamped → HasNumber packet shard m → IsFalse (any_among (moment (system_of config events last epoch) own k).coordinator.dropped packet.stamp) → epoch.0 < (servers_at config events k).coordinator.current.0 → In packet (servers_at config events k).coordinator.closed) }
-    ensures below { (config : ConfigValue) (events : List Event) (k : ℕ) (packet : Packet) → In packet (servers_at config events k).coordinator.closed → packet.stamp.epoch.0 < (servers_at config events k).coordinator.current.0 }
-    ensures stamped { (config : ConfigValue) (events : List Event) (k : ℕ) (packet : Packet) → In packet (servers_at config events k).coordinator.closed → In packet (stamping_of config (servers_at config events k).stampings packet.stamp.epoch).stamped }
 {}

@@ -3,4 +3,4 @@
 
 mod law;
 
-pub use law::{closing_keeps_what_was_spoken, each_epoch_is_a_run, epochs_never_fall, replicas_are_local, runs_have_moments};
+pub use law::{each_epoch_is_a_run, epochs_never_fall, replicas_are_local, runs_have_moments};

@@ -1,7 +1,7 @@
 use Rattle.std.proofs.Common.{◌≡◌, ℕ, List, ap, sym, ◌∙◌, subst, arith}
 use Rattle.eris_agreement.proofs.Reduction.{own_events, is_epoch_run}
-use Rattle.eris_agreement.proofs.SpokenClosed.{spoken_closed, closed_below_current, closed_stamped}
-use Rattle.eris_agreement.proofs.law.closing_keeps_what_was_spoken.Goals as goal
+use Rattle.eris_order_law.proofs.SpokenClosed.{spoken_closed, closed_below_current, closed_stamped}
+use Rattle.eris_order_law.proofs.law.closing_keeps_what_was_spoken.Goals as goal
 
 pub returns-clause-spoken : goal.returns-clause-spoken
 returns-clause-spoken c = λ config events last epoch.

@@ -21,7 +21,7 @@ use Rattle.eris_agreement.specs.Servers.{Servers}
 use Rattle.eris_agreement.specs.WorldMoments.{world_at}
 use Rattle.eris_agreement.proofs.ClosedLaws.{listed-In}
 use Rattle.eris_agreement.proofs.Growth.{closed_kept, current_rises}
-use Rattle.eris_agreement.proofs.SpokenClosed.{closed_stamped}
+use Rattle.eris_order_law.proofs.SpokenClosed.{closed_stamped}
 
 -- what passes a test is among what passes
 filtered-In : {X : Type 0} (test : X → Bool) (xs : List X) (x : X) → In x xs → test x ≡ true → In x (filter test xs)

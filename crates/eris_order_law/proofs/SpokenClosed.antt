@@ -37,7 +37,7 @@ use Rattle.eris_agreement.specs.EpochRuns.{servers_at, system_of}
 use Rattle.eris_agreement.specs.Servers.{Servers}
 use Rattle.eris_agreement.specs.WorldMoments.{moment_from}
 use Rattle.eris_agreement.proofs.ClosedLaws.{IsHeldBy, left_behind-In, left_behind-epoch}
-use Rattle.eris_agreement.proofs.Closings.{alone, then, is_alone, follows, closed_frozen, crossing, closes_at, Closes, SameClosed, quorum_at, noted_then, own_epoch}
+use Rattle.eris_order_law.proofs.Closings.{alone, then, is_alone, follows, closed_frozen, crossing, closes_at, Closes, SameClosed, quorum_at, noted_then, own_epoch}
 use Rattle.eris_agreement.proofs.CoordLeaves.{noting}
 use Rattle.eris_agreement.proofs.EpochInvariants.{IsNotedRight, holds_at}
 use Rattle.eris_agreement.proofs.Growth.{over, current_rises}
