@@ -12,4 +12,4 @@ pub mod SaidIn
 pub mod FollowSteps
 pub mod Growth
 pub mod Reduction
-pub mod Closings
+pub mod Locality

@@ -10,7 +10,6 @@ use Rattle.eris_base.specs.ConfigLimits.{ConfigValue}
 use Rattle.eris_base.specs.Each.{Each}
 use Rattle.eris_txn.specs.declared.packet.Packet.{Packet}
 use Rattle.eris_txn.specs.Bodies.{participants_of}
-use Rattle.eris_log.specs.PartFacts.{AreMarks}
 use Rattle.eris_msg.specs.declared.message.Message.{Message}
 use Rattle.eris_msg.specs.declared.outgoing.Outgoing.{Outgoing}
 use Rattle.eris_sequencer.specs.Asks.{sends_to, sends_of}
@@ -21,8 +20,8 @@ use Rattle.eris_rules.proofs.OuterLaws.{inner_of-outer, outer_sends-append}
 use Rattle.eris_epoch_law.specs.EpochWorlds.{packet_sends}
 use Rattle.eris_epoch_law.specs.Fine.{KnownLists, IsFineMessage}
 use Rattle.eris_epoch_law.specs.Members.{In}
-use Rattle.eris_epoch_law.proofs.FineParts.{marked-epoch}
-use Rattle.eris_epoch_law.proofs.Members.{Each-at, Each-by_In, OfMessage, In-contained}
+use Rattle.eris_epoch_law.proofs.Members.{Each-at}
+use Rattle.eris_epoch_law.proofs.OfEpoch.{fine_is_of}
 
 -- it is of the epoch, or a late answer, which is of none
 abbrev pub SaidIn : Epoch → EpochMessage → Type 0
@@ -69,22 +68,11 @@ nothing_said node message inner sends none i h =
     absurd (cc)
 
 -- a fine message is said in its epoch
-marks_of : (epoch : Epoch) (places : List Place) → AreMarks epoch places → Each (λ (place : Place). place.epoch ≡ epoch) places
-marks_of epoch places marks = Each-by_In _ places (λ place i. marked-epoch epoch places place marks.of_epoch (In-contained places place i))
-
 pub fine_said : (epoch : Epoch) (known : KnownLists) (message : EpochMessage) → IsFineMessage epoch known message → SaidIn epoch message
-fine_said epoch known (Stamped packet) fine = fine.of_epoch.epoch_is
-fine_said epoch known (Instructs (Request place)) fine = fine
-fine_said epoch known (Instructs (Found packet)) fine = fine.packet_is.of_epoch.epoch_is
-fine_said epoch known (Instructs (Dropped place)) fine = fine.epoch_is
-fine_said epoch known (Notifies (Find replica place)) fine = fine
-fine_said epoch known (Notifies (Has packet)) fine = fine.of_epoch.epoch_is
-fine_said epoch known (Notifies (TempDropped place shard replica view)) fine = fine
-fine_said epoch known (Exchanges (ViewChange replica view part)) fine = fine.epoch_is
-fine_said epoch known (Exchanges (StartView view part)) fine = fine.epoch_is
-fine_said epoch known (Exchanges (SyncAsk view)) fine = tt
-fine_said epoch known (Exchanges (Ack replica view length)) fine = tt
-fine_said epoch known (Exchanges (Settled view number places)) fine = marks_of epoch places fine.marks
+fine_said epoch known (Stamped packet) fine = fine_is_of epoch known (Stamped packet) fine tt
+fine_said epoch known (Instructs instruction) fine = fine_is_of epoch known (Instructs instruction) fine tt
+fine_said epoch known (Notifies notice) fine = fine_is_of epoch known (Notifies notice) fine tt
+fine_said epoch known (Exchanges exchange) fine = fine_is_of epoch known (Exchanges exchange) fine tt
 fine_said epoch known (Responds (Vouch view shard replica stamp id phase)) fine = fine
 fine_said epoch known (Responds (Reply view shard replica stamp id phase answer)) fine = fine
 fine_said epoch known (Responds (Late shard replica id phase answer)) fine = tt

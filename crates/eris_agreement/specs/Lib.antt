@@ -3,3 +3,4 @@ pub mod Servers
 pub mod ClosedBelow
 pub mod Alone
 pub mod EpochRuns
+pub mod OwnSteps

@@ -198,7 +198,7 @@ module _ (config : ConfigValue) (events : List Event) (last : ℕ) where
       let epoch : Epoch = (state_of (at k).replicas shard replica).epoch in
       ap (λ (x : EpochReplica). x.part.shard) (sym ((is_alone epoch k le).there shard replica refl)) ∙ ((all_fine (system epoch) (own_events config events last epoch) k).replicas shard replica).own
 
-  own_epoch : (k : ℕ) → k ≤ last → (shard : ShardId) (replica : ReplicaId) → (state_of (at k).replicas shard replica).inner.part.epoch ≡ (state_of (at k).replicas shard replica).epoch
+  pub own_epoch : (k : ℕ) → k ≤ last → (shard : ShardId) (replica : ReplicaId) → (state_of (at k).replicas shard replica).inner.part.epoch ≡ (state_of (at k).replicas shard replica).epoch
   own_epoch k le shard replica =
       let epoch : Epoch = (state_of (at k).replicas shard replica).epoch in
       ap (λ (x : EpochReplica). x.part.epoch) (sym ((is_alone epoch k le).there shard replica refl)) ∙ ((all_fine (system epoch) (own_events config events last epoch) k).replicas shard replica).part.epoch_is
@@ -210,7 +210,7 @@ module _ (config : ConfigValue) (events : List Event) (last : ℕ) where
     pub promised : (state_of (at moment).replicas shard replica).promised ≡ target
     pub same : (state_of (at moment).replicas shard replica).inner.part ≡ part
 
-  noted_then : (j : ℕ) → j ≤ last → (one : NotedPart) (target : Epoch) → In (record { to = Coordinator; message = Message.EpochState one.replica target one.part }) (at j).sent
+  pub noted_then : (j : ℕ) → j ≤ last → (one : NotedPart) (target : Epoch) → In (record { to = Coordinator; message = Message.EpochState one.replica target one.part }) (at j).sent
       → NotedThen j target one.part.shard one.replica one.part
   noted_then j le one target i =
       let why = cause config events j _ i in
