@@ -1,5 +1,5 @@
 -- All that a client sends are asks to the sequencer. So no law of the servers has a case for clients.
-use Rattle.std.proofs.Common.{◌≡◌, ℕ, List, [], ◌∷◌, Bool, true, false, ◌&&◌, Option, Some, None, refl}
+use Rattle.std.proofs.Common.{ℕ, List, Bool, Option, Some, None}
 use Rattle.std.specs.List.{list_any}
 use Rattle.std.specs.Prelude.{if◌then◌else◌, ⊤}
 use Rattle.std.proofs.lemmas.Bool.{cond_both}
@@ -19,8 +19,8 @@ use Rattle.eris_rules.specs.declared.transaction.Course.{Course}
 use Rattle.eris_rules.specs.declared.transaction.Course.TheVariants.{Executing, Reading, Concluding, Aborting}
 use Rattle.eris_rules.specs.declared.transaction.Transaction.{Transaction}
 use Rattle.eris_rules.specs.declared.transaction.Vote.{Vote}
-use Rattle.eris_rules.specs.Clients.{idle, begins_half, submit, asks_again, retries, own_id, retry, aborts, abort, finishes, is_executed, concludes, answers_counted, all_values, has_read, has_concluded, is_told, completes, goes_on, hears_vote_of, hears_vote, vote_row, hears_late_of, hears_late, late_row, client_takes, client_step}
-use Rattle.eris_rules.specs.ClientStates.{ClientIdentity, ClientState, ClientOut, transaction_at, with_transaction, body_of}
+use Rattle.eris_rules.specs.Clients.{idle, begins_half, submit, asks_again, retries, own_id, retry, aborts, abort, finishes, is_executed, concludes, answers_counted, has_read, has_concluded, is_told, completes, goes_on, hears_vote_of, hears_vote, vote_row, hears_late_of, hears_late, late_row, client_takes, client_step}
+use Rattle.eris_rules.specs.ClientStates.{ClientIdentity, ClientState, ClientOut, transaction_at, with_transaction}
 use Rattle.eris_rules.specs.Votes.{with_vote, with_late}
 
 -- an ask, to the sequencer

@@ -1,7 +1,6 @@
 -- What an epoch leaves when it closes is of that epoch, so nothing changes of the epochs below it.
-use Rattle.std.proofs.Common.{◌≡◌, ◌⊎◌, inl, inr, ℕ, ◌<◌, ◌≤◌, List, [], ◌∷◌, ◌++◌, map, Bool, true, false, cond, nat_lt, not, ◌&&◌, ◌==◌, Option, Some, None, refl, sym, ap, ◌∙◌, subst, arith}
-use Rattle.std.specs.List.{filter, flat_map, list_all, list_any}
-use Rattle.std.specs.Prelude.{if◌then◌else◌}
+use Rattle.std.proofs.Common.{◌≡◌, ◌⊎◌, inl, inr, ℕ, ◌<◌, ◌≤◌, List, [], ◌∷◌, ◌++◌, map, Bool, true, false, cond, nat_lt, not, ◌&&◌, ◌==◌, refl, sym, ap, ◌∙◌, subst, arith}
+use Rattle.std.specs.List.{filter, flat_map, list_all}
 use Rattle.std.proofs.lemmas.Bool.{and_parts, eqb-true}
 use Rattle.std.proofs.lemmas.Bool.Decides.{nat_tests}
 use Rattle.eris_base.specs.declared.ids.Epoch.{Epoch}
@@ -11,8 +10,7 @@ use Rattle.eris_txn.specs.declared.packet.Packet.{Packet}
 use Rattle.eris_log.specs.PartValues.{PartValue}
 use Rattle.eris_log.specs.Places.{any_among}
 use Rattle.eris_epoch.specs.declared.noted.NotedPart.{NotedPart}
-use Rattle.eris_epoch.specs.Closing.{held_of, held_in, close}
-use Rattle.eris_epoch.specs.EpochTallies.{EpochTallyValue}
+use Rattle.eris_epoch.specs.Closing.{held_of, held_in}
 use Rattle.eris_epoch.specs.SamePackets.{same_packet, is_listed}
 use Rattle.eris_epoch.proofs.EpochLaws.{IsClosing-close}
 use Rattle.eris_epoch.proofs.SameLaws.{same_packet-true, same_packet-refl}

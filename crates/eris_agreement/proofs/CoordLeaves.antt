@@ -1,7 +1,7 @@
 -- What a step of the coordinator can be, seen from outside the current epoch: nothing, a step within it, a start
 -- of the current epoch for one replica, a higher target, a noted part, or the closing of the epochs below the
 -- target. Every fact on the coordinator's epochs is one match on these cases.
-use Rattle.std.proofs.Common.{◌≡◌, ℕ, ◌<◌, ◌≤◌, List, Bool, true, false, not, ◌==◌, ◌&&◌, nat_lt, nat_le, Option, Some, None, refl, sym, ap, ◌∙◌, subst, arith}
+use Rattle.std.proofs.Common.{◌≡◌, ◌<◌, ◌≤◌, Bool, true, false, ◌==◌, ◌&&◌, nat_lt, Option, Some, None, refl, sym, ap, ◌∙◌, subst, arith}
 use Rattle.std.specs.Prelude.{if◌then◌else◌}
 use Rattle.std.proofs.lemmas.Bool.{cond_both, eqb-true, and_parts, ltb-true, not-true}
 use Rattle.std.proofs.lemmas.Bool.Decides.{nat_tests}
@@ -64,7 +64,7 @@ module _ (config : ConfigValue) (state : CoordState) where
   unfolding coord_takes_inner
   leaf_inner message inner ok is = choose _ (decides_in state inner.epoch) _ _
       (λ h. let own : inner.epoch ≡ state.current = epoch_equal _ _ (eqb-true _ _ (and_parts _ _ h).0) in
-          Within message inner.message ok (is ∙ ap (λ (e : Epoch). Some (record { epoch = e; message = inner.message })) own) (not_frozen (not-true _ (and_parts _ _ h).1)))
+      Within message inner.message ok (is ∙ ap (λ (e : Epoch). Some (record { epoch = e; message = inner.message })) own) (not_frozen (not-true _ (and_parts _ _ h).1)))
       (λ h. leaf_elsewhere message inner)
 
   leaf_above : (shard : ShardId) (replica : ReplicaId) (epoch : Epoch) → CoordLeaf config state (Message.NewEpoch shard replica epoch) (new_epoch_above config state epoch)

@@ -1,8 +1,8 @@
 -- What every event leaves of the epochs: epochs, promises, the current epoch and the target never fall; what was
 -- sent stays, and stamping lists only grow. And what a message that speaks of epochs tells of its sender: the
 -- state in it is the sender's after the step, and the start in it is the coordinator's.
-use Rattle.std.proofs.Common.{◌≡◌, ◌⊎◌, inl, inr, ℕ, zero, suc, ◌+◌, ◌*◌, ◌<◌, ◌≤◌, List, [], ◌∷◌, ◌++◌, map, length, Option, Some, None, refl, sym, ap, ◌∙◌, subst, arith}
-use Rattle.std.specs.List.{flat_map, range_with_len}
+use Rattle.std.proofs.Common.{◌≡◌, ◌⊎◌, inl, inr, ℕ, zero, suc, ◌+◌, ◌*◌, ◌≤◌, List, [], ◌∷◌, ◌++◌, length, Some, refl, sym, ap, ◌∙◌, subst, arith}
+use Rattle.std.specs.List.{range_with_len}
 use Rattle.std.specs.Prelude.{slice_get, slice_set}
 use Rattle.eris_base.specs.declared.ids.ClientId.{ClientId}
 use Rattle.eris_base.specs.declared.ids.Epoch.{Epoch}
@@ -19,31 +19,29 @@ use Rattle.eris_txn.specs.Bodies.{participants_of}
 use Rattle.eris_epoch.specs.Closing.{shard_log}
 use Rattle.eris_msg.specs.declared.message.Message.{Message}
 use Rattle.eris_msg.specs.declared.outgoing.Outgoing.{Outgoing}
-use Rattle.eris_script.specs.declared.event.Event.{Event}
 use Rattle.eris_sequencer.specs.declared.stamping.Stamping.{Stamping}
 use Rattle.eris_sequencer.specs.Asks.{sends_to, sends_of}
 use Rattle.eris_sequencer.specs.Sequencers.{new_stamping, replace}
 use Rattle.eris_sequencer.specs.Stamps.{stamped_next, next_packet}
 use Rattle.eris_rules.specs.declared.replica_input.ReplicaInput.{ReplicaInput}
 use Rattle.eris_rules.specs.Addressees.{shard_replicas, all_replicas}
-use Rattle.eris_rules.specs.Coordinators.{stays, coord_steps_in, start_of, starts, tell_all, raises_target, after_closing, starts_shard, starts_all, closes}
+use Rattle.eris_rules.specs.Coordinators.{coord_steps_in, start_of, starts, raises_target, after_closing, starts_shard, starts_all, closes}
 use Rattle.eris_rules.specs.CoordStates.{CoordState, CoordOut, begun_epoch}
 use Rattle.eris_rules.specs.EpochMessages.{EpochMessage, EpochSend, Stamped, Instructs, Notifies, Exchanges, Responds, Request, Found, Dropped, Find, Has, TempDropped, ViewChange, StartView, SyncAsk, Ack, Settled, Vouch, Reply, Late}
 use Rattle.eris_rules.specs.EpochCoords.{epoch_coord_step, nudge_row}
 use Rattle.eris_rules.specs.Outer.{outer, outer_sends, tell_each}
 use Rattle.eris_rules.specs.ReplicaStates.{ReplicaState, ReplicaOut, begun}
-use Rattle.eris_rules.specs.Replicas.{still, steps_in, steps, asks_start, promises}
+use Rattle.eris_rules.specs.Replicas.{steps_in, steps, asks_start, promises}
 use Rattle.eris_rules.specs.Worlds.{replica_at, with_replica}
 use Rattle.eris_epoch_law.specs.Members.{In}
 use Rattle.eris_epoch_law.proofs.Members.{Each-at, Each-any, Each-map, Each-flat_map, In-append, In-left}
 use Rattle.eris_agreement.specs.Alone.{stamping_or, stamping_of, state_of}
-use Rattle.eris_agreement.specs.Servers.{Servers, servers_of}
-use Rattle.eris_agreement.specs.WorldMoments.{world_at}
+use Rattle.eris_agreement.specs.Servers.{Servers}
 use Rattle.eris_agreement.proofs.Cells.{state_of-some, state-same, state-other, everywhere, get-set, get-set_same}
-use Rattle.eris_agreement.proofs.ClientAsks.{IsAsk, AsksOnly}
+use Rattle.eris_agreement.proofs.ClientAsks.{IsAsk}
 use Rattle.eris_agreement.proofs.CoordLeaves.{CoordLeaf, noting}
 use Rattle.eris_agreement.proofs.ReplicaLeaves.{ReplicaLeaf}
-use Rattle.eris_agreement.proofs.Moves.{Move, Rests, ReplicaMoves, CoordinatorMoves, AsksAgain, Nudges, Stamps, Replaces, Asks, replica_moved, coordinator_moved, stamped, asked_again, me_at, Came, next_move}
+use Rattle.eris_agreement.proofs.Moves.{Move, Rests, ReplicaMoves, CoordinatorMoves, AsksAgain, Nudges, Stamps, Replaces, Asks, replica_moved, coordinator_moved, stamped, asked_again, me_at}
 
 -- what a message tells of its sender after the step that sent it
 abbrev pub Tells : Servers → Message → Type 0
@@ -266,8 +264,12 @@ module _ (config : ConfigValue) (now : Servers) where
 
   replaced_after : IsAfter config now (record now { stampings = replace config now.stampings })
   replaced_after = record {
-    epoch = λ a b. omega arith; promised = λ a b. omega arith; current = omega arith; target = omega arith;
-    new = λ one i. inl i; kept = λ one i. i;
+    epoch = λ a b. omega arith;
+    promised = λ a b. omega arith;
+    current = omega arith;
+    target = omega arith;
+    new = λ one i. inl i;
+    kept = λ one i. i;
     stamped = λ epoch packet i. subst (λ (made : Stamping). In packet made.stamped) (sym (stamping-more epoch)) i;
   }
 

@@ -1,7 +1,7 @@
 -- What holds of the epochs at every moment: nobody is in an epoch above the current one; closed packets are of
 -- epochs below it; and what a replica has of the epochs before its own, like each start that was sent, is its
 -- shard's log of what was closed below that epoch, whatever was closed since.
-use Rattle.std.proofs.Common.{◌≡◌, ◌⊎◌, inl, inr, ℕ, zero, suc, ◌+◌, ◌<◌, ◌≤◌, List, [], ◌∷◌, ◌++◌, length, Bool, true, false, ◌&&◌, Option, Some, None, refl, sym, ap, ◌∙◌, subst, arith, replicate, map}
+use Rattle.std.proofs.Common.{◌≡◌, inl, inr, ℕ, zero, suc, ◌+◌, ◌<◌, ◌≤◌, List, [], ◌++◌, true, Option, Some, None, refl, sym, ap, ◌∙◌, subst, arith, replicate, map}
 use Rattle.std.specs.List.{range_with_len}
 use Rattle.std.specs.Prelude.{slice_get}
 use Rattle.std.proofs.lemmas.Bool.{and_parts, ltb-true}
@@ -17,7 +17,6 @@ use Rattle.eris_txn.specs.declared.packet.Packet.{Packet}
 use Rattle.eris_log.specs.PartValues.{PartValue}
 use Rattle.eris_epoch.specs.declared.noted.NotedPart.{NotedPart}
 use Rattle.eris_epoch.specs.Closing.{shard_log}
-use Rattle.eris_epoch.specs.EpochTallies.{with_noted}
 use Rattle.eris_epoch.proofs.Additions.{shard_log-none}
 use Rattle.eris_epoch.proofs.EpochLaws.{each-with_noted}
 use Rattle.eris_msg.specs.declared.message.Message.{Message}
@@ -26,10 +25,10 @@ use Rattle.eris_script.specs.declared.event.Event.{Event}
 use Rattle.eris_rules.specs.declared.replica_input.ReplicaInput.{ReplicaInput}
 use Rattle.eris_rules.specs.Addressees.{replica_count}
 use Rattle.eris_rules.specs.Coordinators.{coord_steps_in, starts, raises_target, left_behind, after_closing, closes}
-use Rattle.eris_rules.specs.CoordStates.{CoordState, CoordOut, EpochCoordOut, begun_epoch, first_coordinator, nothing_asked}
+use Rattle.eris_rules.specs.CoordStates.{CoordState, CoordOut, begun_epoch, first_coordinator, nothing_asked}
 use Rattle.eris_rules.specs.EpochCoords.{epoch_coord_step, nudge_row}
 use Rattle.eris_rules.specs.EpochMessages.{EpochMessage, Stamped, Instructs, Notifies, Exchanges, Responds, Has}
-use Rattle.eris_rules.specs.InPlace.{is_for_coordinator, is_in_place_at_coordinator, is_right_part, is_sound, has_right_part, has_right_log, all_name_participants, packets_in}
+use Rattle.eris_rules.specs.InPlace.{is_in_place_at_coordinator, is_right_part, is_sound, all_name_participants, packets_in}
 use Rattle.eris_rules.specs.Known.{knows_all, knows_replica, knows_part}
 use Rattle.eris_rules.specs.Outer.{inner_of, IsOf}
 use Rattle.eris_rules.specs.ReplicaStates.{ReplicaState, ReplicaOut, begun, first_state}
@@ -45,9 +44,9 @@ use Rattle.eris_agreement.specs.WorldMoments.{moment_from, world_at}
 use Rattle.eris_agreement.proofs.Cells.{state_of-some, state-same, state-other, everywhere}
 use Rattle.eris_agreement.proofs.ClosedLaws.{closed_below-kept, closed_below-all, left_behind-epoch}
 use Rattle.eris_agreement.proofs.CoordLeaves.{CoordLeaf, noting}
-use Rattle.eris_agreement.proofs.EpochGrowth.{IsAfter, is_after, replica_after, coordinator_after, TellsSent}
+use Rattle.eris_agreement.proofs.EpochGrowth.{IsAfter, is_after, replica_after, coordinator_after}
 use Rattle.eris_agreement.proofs.InnerLaws.{said_is_of}
-use Rattle.eris_agreement.proofs.Moves.{Move, Rests, ReplicaMoves, CoordinatorMoves, AsksAgain, Nudges, Stamps, Replaces, Asks, replica_moved, coordinator_moved, stamped, asked_again, me_at, Came, next_move}
+use Rattle.eris_agreement.proofs.Moves.{Move, Rests, ReplicaMoves, CoordinatorMoves, AsksAgain, Nudges, Stamps, Replaces, Asks, replica_moved, coordinator_moved, me_at, Came, next_move}
 use Rattle.eris_agreement.proofs.ReplicaLeaves.{ReplicaLeaf}
 
 -- a noted part was sent for the present target, and holds its packets rightly
@@ -148,8 +147,8 @@ module _ (config : ConfigValue) (now : Servers) (hold : HoldOfEpochs config now)
   replica_kept shard replica state out found step made =
       same_epochs config now (replica_moved now shard replica out) step hold (record { current = refl; closed = refl })
       (everywhere (λ a b. IsOfClosed now.coordinator.current now.coordinator.closed a (state_of (with_replica now.replicas shard replica out.state) a b)) shard replica
-        (subst (IsOfClosed now.coordinator.current now.coordinator.closed shard) (sym (state-same now.replicas shard replica state out.state found)) made)
-        (λ a b apart. subst (IsOfClosed now.coordinator.current now.coordinator.closed a) (sym (state-other now.replicas shard replica state out.state found a b apart)) (hold.replicas a b)))
+      (subst (IsOfClosed now.coordinator.current now.coordinator.closed shard) (sym (state-same now.replicas shard replica state out.state found)) made)
+      (λ a b apart. subst (IsOfClosed now.coordinator.current now.coordinator.closed a) (sym (state-other now.replicas shard replica state out.state found a b apart)) (hold.replicas a b)))
       hold.found
       (more_sent config now (replica_moved now shard replica out) step.kept refl hold.noted)
 
@@ -208,8 +207,11 @@ module _ (config : ConfigValue) (now : Servers) (hold : HoldOfEpochs config now)
     starts = λ node epoch shard packets i. elim (step.new _ i) [
       | inl old ↦ (let s = hold.starts node epoch shard packets old in let le = s.0 in
           (omega arith, s.1 ∙ ap (λ closed. shard_log closed shard) (sym (closed_below-kept epoch now.coordinator.current now.coordinator.closed more s.0 of))))
-      | inr new ↦ (let e = ap (λ (x : Epoch). x.0) new.0 in (omega arith, new.1 ∙ ap (λ closed. shard_log closed shard)
-          (sym (closed_below-all epoch (now.coordinator.closed ++ more) (subst (λ (x : Epoch). Each (λ (packet : Packet). packet.stamp.epoch.0 < x.0) (now.coordinator.closed ++ more)) (sym new.0) every)))))
+      | inr new ↦ (let e = ap (λ (x : Epoch). x.0) new.0 in (
+        omega arith,
+        new.1 ∙ ap (λ closed. shard_log closed shard)
+            (sym (closed_below-all epoch (now.coordinator.closed ++ more) (subst (λ (x : Epoch). Each (λ (packet : Packet). packet.stamp.epoch.0 < x.0) (now.coordinator.closed ++ more)) (sym new.0) every))),
+      ))
     ];
     below = every;
     found = tt;
@@ -282,7 +284,9 @@ first_hold config = record {
   target = omega arith;
   replicas = λ shard replica. subst (IsOfClosed (record { 0 = 0 }) [] shard) (sym (first_states config shard replica)) (of_start shard);
   starts = λ node epoch shard packets i. absurd i;
-  below = tt; found = tt; noted = tt;
+  below = tt;
+  found = tt;
+  noted = tt;
 }
 
 -- AT EVERY MOMENT

@@ -1,8 +1,8 @@
 -- One event, seen in one epoch alone: it is an event of that epoch's machine, or it leaves the epoch as it is. The
 -- rows of a step are never looked into, so this doesn't change when a row does.
-use Rattle.std.proofs.Common.{◌≡◌, ◌⊎◌, inl, inr, ℕ, zero, suc, ◌<◌, ◌≤◌, List, [], ◌∷◌, ◌++◌, length, Bool, true, false, not, ◌&&◌, cond, Option, Some, None, refl, sym, ap, ◌∙◌, subst, arith}
+use Rattle.std.proofs.Common.{◌≡◌, ◌⊎◌, inl, inr, ℕ, suc, ◌<◌, ◌≤◌, List, [], ◌∷◌, ◌++◌, length, true, false, Some, None, refl, sym, ap, ◌∙◌, subst, arith}
 use Rattle.std.specs.List.{range_with_len}
-use Rattle.std.specs.Prelude.{slice_get, slice_set, if◌then◌else◌}
+use Rattle.std.specs.Prelude.{slice_get, slice_set}
 use Rattle.std.proofs.lemmas.Bool.{cases_eq}
 use Rattle.eris_base.specs.declared.ids.ClientId.{ClientId}
 use Rattle.eris_base.specs.declared.ids.Epoch.{Epoch}
@@ -29,19 +29,19 @@ use Rattle.eris_rules.specs.Coordinators.{stays, coord_steps_in, start_of, start
 use Rattle.eris_rules.specs.CoordStates.{CoordState, CoordOut, EpochCoordOut, begun_epoch}
 use Rattle.eris_rules.specs.EpochCoords.{epoch_coord_step, nudge_row}
 use Rattle.eris_rules.specs.EpochMessages.{EpochMessage, EpochSend, Stamped, send_each}
-use Rattle.eris_rules.specs.EpochReplicas.{EpochInput, Get, Probe, Suspect, Sync, epoch_step}
-use Rattle.eris_rules.specs.Outer.{Inner, inner_of, outer_sends, tell_each}
-use Rattle.eris_rules.specs.ReplicaStates.{Identity, Member, EpochReplica, EpochOut, ReplicaState, ReplicaOut, begun, fresh}
+use Rattle.eris_rules.specs.EpochReplicas.{EpochInput, Get, epoch_step}
+use Rattle.eris_rules.specs.Outer.{inner_of, outer_sends, tell_each}
+use Rattle.eris_rules.specs.ReplicaStates.{EpochReplica, EpochOut, ReplicaState, ReplicaOut, begun, fresh}
 use Rattle.eris_rules.specs.Replicas.{still, member, steps_in, steps, asks_start, promises}
 use Rattle.eris_rules.specs.Worlds.{replica_at, with_replica}
 use Rattle.eris_epoch_law.specs.EpochWorlds.{EpochSystem, EpochWorld, member_of, EpochEvent, Delivers, Probes, Suspects, Syncs, Nudges, Idles, packet_sends, after_stamping, asks_stamp, after_replica, replica_steps, replica_takes, after_coordinator, comes_to, arrives, happens}
 use Rattle.eris_epoch_law.specs.Members.{In}
 use Rattle.eris_epoch_law.specs.Reading.{read}
 use Rattle.eris_epoch_law.proofs.Frame.{read-some, written-same}
-use Rattle.eris_epoch_law.proofs.Members.{Each-at, Each-any, Each-told, Each-map, Each-flat_map, In-append, In-left, In-right}
+use Rattle.eris_epoch_law.proofs.Members.{Each-any, Each-told, Each-flat_map, In-append, In-left, In-right}
 use Rattle.eris_agreement.specs.Alone.{stamping_of, state_of, IsAlone, Follows}
 use Rattle.eris_agreement.specs.Servers.{Servers}
-use Rattle.eris_agreement.proofs.Cells.{cell, cell-same, state_of-some, state-same, state-other, everywhere}
+use Rattle.eris_agreement.proofs.Cells.{cell, state_of-some, state-same, state-other, everywhere}
 use Rattle.eris_agreement.proofs.ClientAsks.{IsAsk, AsksOnly}
 use Rattle.eris_agreement.proofs.CoordLeaves.{CoordLeaf, noting}
 use Rattle.eris_agreement.proofs.EpochGrowth.{each_told, stamping-made, stamping-there, stamping-other, stamping-more}
@@ -134,7 +134,9 @@ module _ (config : ConfigValue) (epoch : Epoch) (prior : ShardId → List Packet
           (subst (λ (x : ReplicaState). x.epoch.0 < epoch.0 → read system alone.replicas shard replica ≡ fresh epoch shard) (sym (state-same now.replicas shard replica state out.state h)) q)
           (λ a b apart. subst (λ (x : ReplicaState). x.epoch.0 < epoch.0 → read system alone.replicas a b ≡ fresh epoch a) (sym (state-other now.replicas shard replica state out.state h a b apart)) (is.not_yet a b));
       found = found_put shard replica state out.state h;
-      coordinator = is.coordinator; coordinator_not_yet = is.coordinator_not_yet; stamping = is.stamping;
+      coordinator = is.coordinator;
+      coordinator_not_yet = is.coordinator_not_yet;
+      stamping = is.stamping;
       sent = no_more out.sends none;
     };
     frozen = λ a b k. refl;
@@ -159,8 +161,8 @@ module _ (config : ConfigValue) (epoch : Epoch) (prior : ShardId → List Packet
           there = everywhere (λ a b. (state_of (with_replica now.replicas shard replica made) a b).epoch ≡ epoch → read system (with_replica alone.replicas shard replica out.state) a b ≡ (state_of (with_replica now.replicas shard replica made) a b).inner) shard replica
               (λ e. written-same system alone.replicas shard replica state.inner out.state k ∙ sym (ap (λ (x : ReplicaState). x.inner) (state-same now.replicas shard replica state made h)))
               (λ a b apart e. small_other shard replica state.inner out.state k a b apart
-                ∙ is.there a b (ap (λ (x : ReplicaState). x.epoch) (sym (state-other now.replicas shard replica state made h a b apart)) ∙ e)
-                ∙ sym (ap (λ (x : ReplicaState). x.inner) (state-other now.replicas shard replica state made h a b apart)));
+              ∙ is.there a b (ap (λ (x : ReplicaState). x.epoch) (sym (state-other now.replicas shard replica state made h a b apart)) ∙ e)
+              ∙ sym (ap (λ (x : ReplicaState). x.inner) (state-other now.replicas shard replica state made h a b apart)));
           not_yet = everywhere (λ a b. (state_of (with_replica now.replicas shard replica made) a b).epoch.0 < epoch.0 → read system (with_replica alone.replicas shard replica out.state) a b ≡ fresh epoch a) shard replica
               (λ lt. let z = ap (λ (x : ReplicaState). x.epoch.0) (state-same now.replicas shard replica state made h) in let e = ap (λ (x : Epoch). x.0) same in absurd (omega arith))
               (λ a b apart lt. small_other shard replica state.inner out.state k a b apart ∙ is.not_yet a b (subst (λ (x : ReplicaState). x.epoch.0 < epoch.0) (state-other now.replicas shard replica state made h a b apart) lt));
@@ -168,7 +170,9 @@ module _ (config : ConfigValue) (epoch : Epoch) (prior : ShardId → List Packet
             | inl e ↦ (out.state, e.2)
             | inr e ↦ (let w = found_put shard replica state made h a b x z in (w.0, e ∙ w.1))
           ];
-          coordinator = is.coordinator; coordinator_not_yet = is.coordinator_not_yet; stamping = is.stamping;
+          coordinator = is.coordinator;
+          coordinator_not_yet = is.coordinator_not_yet;
+          stamping = is.stamping;
           sent = λ node message inner i e. elim (In-append _ now.sent (outer_sends state.epoch out.sends) i) [
             | inl old ↦ In-left _ alone.sent out.sends (is.sent node message inner old e)
             | inr new ↦ In-right _ alone.sent out.sends (unwrap state.epoch node message _ out.sends said new e).1
@@ -239,7 +243,7 @@ module _ (config : ConfigValue) (epoch : Epoch) (prior : ShardId → List Packet
       let event = by_input shard replica state.inner input meant k came (subst (λ e. Means (me_at config shard replica) e input meant) same means) in
       let out : EpochOut = epoch_step (member (me_at config shard replica) state) state.inner meant in
       let is_out : happens system alone event.0 ≡ after_replica alone shard replica out =
-          event.1 ∙ ap (λ m. after_replica alone shard replica (epoch_step m state.inner meant)) (sym (same_member shard replica state (priors same))) in
+      event.1 ∙ ap (λ m. after_replica alone shard replica (epoch_step m state.inner meant)) (sym (same_member shard replica state (priors same))) in
       (event.0, subst (λ next. Follows system now (replica_moved now shard replica (steps_in state out)) alone next) (sym is_out) (both_replica shard replica state out h k same live said))
   inner_step shard replica state input meant h came live means priors said (inr d) =
       idle _ (idle_replica shard replica state (steps_in state (epoch_step (member (me_at config shard replica) state) state.inner meant)) h (λ e. absurd (d (ap (λ (x : Epoch). x.0) e)))
@@ -260,8 +264,8 @@ module _ (config : ConfigValue) (epoch : Epoch) (prior : ShardId → List Packet
       idle _ (idle_replica shard replica state (promises (me_at config shard replica) state other) h (there_here shard replica state h) (not_yet_here shard replica state h) (says_one _ (Message.EpochState replica other state.inner.part) refl))
   replica_step' say priors shard replica state _ _ h came (ReplicaLeaf.Begins other s packets same above up) =
       idle _ (idle_replica shard replica state (still (begun other shard packets)) h
-        (λ e. not_yet_here shard replica state h (let z = ap (λ (x : Epoch). x.0) e in omega (arith, above)) ∙ ap (λ (x : Epoch). fresh x shard) (sym e))
-        (λ lt. not_yet_here shard replica state h (omega (arith, above))) (λ node message inner j e. absurd j))
+      (λ e. not_yet_here shard replica state h (let z = ap (λ (x : Epoch). x.0) e in omega (arith, above)) ∙ ap (λ (x : Epoch). fresh x shard) (sym e))
+      (λ lt. not_yet_here shard replica state h (omega (arith, above))) (λ node message inner j e. absurd j))
 
   -- ---- the coordinator
   idle_coordinator : (out : CoordOut) → (out.state.current ≡ epoch → alone.coordinator ≡ out.state.inner) → (out.state.current.0 < epoch.0 → alone.coordinator ≡ Rattle.eris_rules.specs.CoordStates.nothing_asked)
@@ -278,7 +282,10 @@ module _ (config : ConfigValue) (epoch : Epoch) (prior : ShardId → List Packet
   unfolding after_coordinator coord_steps_in
   both_coordinator out same said = record {
     is_alone = record {
-      there = is.there; not_yet = is.not_yet; found = is.found; coordinator = λ e. refl;
+      there = is.there;
+      not_yet = is.not_yet;
+      found = is.found;
+      coordinator = λ e. refl;
       coordinator_not_yet = λ lt. let e = ap (λ (x : Epoch). x.0) same in absurd (omega arith);
       stamping = is.stamping;
       sent = λ node message inner i e. elim (In-append _ now.sent (outer_sends now.coordinator.current out.sends) i) [
@@ -319,28 +326,32 @@ module _ (config : ConfigValue) (epoch : Epoch) (prior : ShardId → List Packet
   coordinator_step say message _ i (CoordLeaf.Within m inner ok said thawed) =
       within_current (epoch_coord_step config now.coordinator.inner inner) (say.coordinator message inner i said) (cases_eq now.coordinator.current.0 epoch.0)
       (λ same. let x = by_notice inner (is.sent _ message inner i (said ∙ ap (λ (e : Epoch). Some (record { epoch = e; message = inner })) same)) in
-        (x.0, x.1 ∙ ap (λ c. after_coordinator alone (epoch_coord_step config c inner)) (is.coordinator same)))
+      (x.0, x.1 ∙ ap (λ c. after_coordinator alone (epoch_coord_step config c inner)) (is.coordinator same)))
   coordinator_step say message _ i (CoordLeaf.Starts m shard replica) =
       idle _ (idle_coordinator (starts now.coordinator shard replica) is.coordinator is.coordinator_not_yet (says_one _ (start_of now.coordinator shard) refl))
   coordinator_step say _ _ i (CoordLeaf.Raises shard replica other up) =
       idle _ (idle_coordinator (raises_target config now.coordinator other) is.coordinator is.coordinator_not_yet
-        (λ node message inner j e. nothing_said node message _ _ (each_told (λ (one : Outgoing). inner_of one.message ≡ None) (all_replicas config) (Message.EpochAsk other) (λ n. refl)) j e))
+      (λ node message inner j e. nothing_said node message _ _ (each_told (λ (one : Outgoing). inner_of one.message ≡ None) (all_replicas config) (Message.EpochAsk other) (λ n. refl)) j e))
   coordinator_step say _ _ i (CoordLeaf.Notes replica part up ok) = idle _ (idle_coordinator (stays (noting now.coordinator replica part)) is.coordinator is.coordinator_not_yet (λ node other inner j e. absurd j))
   coordinator_step say _ _ i (CoordLeaf.Closes replica part up ok ready) =
       idle _ (idle_coordinator (closes config (noting now.coordinator replica part))
-        (λ e. is.coordinator_not_yet (let z = ap (λ (x : Epoch). x.0) e in omega (arith, up))) (λ lt. is.coordinator_not_yet (omega (arith, up)))
-        (λ node message inner j e. nothing_said node message _ _ (starts_say_nothing config (after_closing config (noting now.coordinator replica part))) j e))
+      (λ e. is.coordinator_not_yet (let z = ap (λ (x : Epoch). x.0) e in omega (arith, up))) (λ lt. is.coordinator_not_yet (omega (arith, up)))
+      (λ node message inner j e. nothing_said node message _ _ (starts_say_nothing config (after_closing config (noting now.coordinator replica part))) j e))
 
   -- ---- the sequencers
   stamps_other : (at : Epoch) (stamping : Stamping) (asker : ClientId) (id : TxnId) (body : Body) → slice_get now.stampings at.0 ≡ Some stamping → stamping.sequencer.epoch ≡ at → (epoch.0 ≡ at.0 → ⊥)
       → Follows system now (stamped config now at stamping asker id body) alone alone
   stamps_other at stamping asker id body h own apart = record {
     is_alone = record {
-      there = is.there; not_yet = is.not_yet; found = is.found; coordinator = is.coordinator; coordinator_not_yet = is.coordinator_not_yet;
+      there = is.there;
+      not_yet = is.not_yet;
+      found = is.found;
+      coordinator = is.coordinator;
+      coordinator_not_yet = is.coordinator_not_yet;
       stamping = is.stamping ∙ sym (stamping-other config now at stamping (stamped_next stamping id asker body) h epoch apart);
       sent = no_more (sends_of config.f (next_packet stamping.sequencer id asker body)) (λ node message inner i e.
           apart (ap (λ (x : Epoch). x.0) (unwrap at node message _ (packet_sends config (next_packet stamping.sequencer id asker body)) (packet_said at stamping asker id body own config)
-            (subst (λ list. In (record { to = node; message = message }) list) (stamped_sends config at (next_packet stamping.sequencer id asker body)) i) e).0));
+          (subst (λ list. In (record { to = node; message = message }) list) (stamped_sends config at (next_packet stamping.sequencer id asker body)) i) e).0));
     };
     frozen = λ a b k. refl;
     closed = λ k. refl;
@@ -353,7 +364,11 @@ module _ (config : ConfigValue) (epoch : Epoch) (prior : ShardId → List Packet
       let packet : Packet = next_packet stamping.sequencer id asker body in
       record {
         is_alone = record {
-          there = is.there; not_yet = is.not_yet; found = is.found; coordinator = is.coordinator; coordinator_not_yet = is.coordinator_not_yet;
+          there = is.there;
+          not_yet = is.not_yet;
+          found = is.found;
+          coordinator = is.coordinator;
+          coordinator_not_yet = is.coordinator_not_yet;
           stamping = ap (λ (s : Stamping). stamped_next s id asker body) is_stamping
               ∙ sym (subst (λ e. stamping_of config (slice_set now.stampings at.0 (stamped_next stamping id asker body)) e ≡ stamped_next stamping id asker body) (sym same) (stamping-made config now at stamping (stamped_next stamping id asker body) h));
           sent = λ node message inner i e. elim (In-append _ now.sent (sends_of config.f packet) i) [
@@ -379,14 +394,19 @@ module _ (config : ConfigValue) (epoch : Epoch) (prior : ShardId → List Packet
   stamp_step at stamping asker id body h own fits free (inr apart) = idle _ (stamps_other at stamping asker id body h own apart)
   stamp_step at stamping asker id body h own fits free (inl d) =
       let same : epoch ≡ at = epoch_equal _ _ d in
-      let is_stamping : alone.stamping ≡ stamping = is.stamping ∙ ap (stamping_of config now.stampings) same ∙ stamping-there config now at stamping h in
-      (Rattle.eris_epoch_law.specs.EpochWorlds.Asks asker id body,
-        subst (λ next. Follows system now (stamped config now at stamping asker id body) alone next) (sym (ask_happens stamping asker id body is_stamping fits free)) (stamps_own at stamping asker id body h own same is_stamping))
+      let is_stamping : alone.stamping ≡ stamping = is.stamping ∙ ap (stamping_of config now.stampings) same ∙ stamping-there config now at stamping h in (
+        Rattle.eris_epoch_law.specs.EpochWorlds.Asks asker id body,
+        subst (λ next. Follows system now (stamped config now at stamping asker id body) alone next) (sym (ask_happens stamping asker id body is_stamping fits free)) (stamps_own at stamping asker id body h own same is_stamping),
+      )
 
   replaces : Follows system now (record now { stampings = replace config now.stampings }) alone alone
   replaces = record {
     is_alone = record {
-      there = is.there; not_yet = is.not_yet; found = is.found; coordinator = is.coordinator; coordinator_not_yet = is.coordinator_not_yet;
+      there = is.there;
+      not_yet = is.not_yet;
+      found = is.found;
+      coordinator = is.coordinator;
+      coordinator_not_yet = is.coordinator_not_yet;
       stamping = is.stamping ∙ sym (stamping-more config now epoch);
       sent = is.sent;
     };
@@ -397,7 +417,12 @@ module _ (config : ConfigValue) (epoch : Epoch) (prior : ShardId → List Packet
   asks : (sends : List Outgoing) → AsksOnly sends → Follows system now (record now { sent = now.sent ++ sends }) alone alone
   asks sends only = record {
     is_alone = record {
-      there = is.there; not_yet = is.not_yet; found = is.found; coordinator = is.coordinator; coordinator_not_yet = is.coordinator_not_yet; stamping = is.stamping;
+      there = is.there;
+      not_yet = is.not_yet;
+      found = is.found;
+      coordinator = is.coordinator;
+      coordinator_not_yet = is.coordinator_not_yet;
+      stamping = is.stamping;
       sent = no_more sends (λ node message inner i e. nothing_said node message _ sends (Each-weaker (λ (one : Outgoing). IsAsk one.message) (λ (one : Outgoing). inner_of one.message ≡ None) (λ one h. ask_says_nothing one.message h) sends only) i e);
     };
     frozen = λ a b k. refl;

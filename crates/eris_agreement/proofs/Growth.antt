@@ -1,7 +1,7 @@
 -- Over any two moments of a run: epochs, promises, the current epoch and the target never fall; what was sent and
 -- what was stamped stays; what was closed below the current epoch stays as it is. And each message that was sent
 -- has a cause at an earlier moment.
-use Rattle.std.proofs.Common.{◌≡◌, ◌⊎◌, inl, inr, ℕ, zero, suc, ◌<◌, ◌≤◌, List, [], Option, Some, None, refl, sym, ap, ◌∙◌, subst, arith}
+use Rattle.std.proofs.Common.{◌≡◌, ◌⊎◌, inl, inr, ℕ, zero, suc, ◌<◌, ◌≤◌, List, refl, sym, ◌∙◌, subst, arith}
 use Rattle.eris_base.specs.declared.ids.Epoch.{Epoch}
 use Rattle.eris_base.specs.declared.ids.Node.TheVariants.{Coordinator}
 use Rattle.eris_base.specs.declared.ids.ReplicaId.{ReplicaId}
@@ -19,13 +19,13 @@ use Rattle.eris_epoch_law.proofs.Members.{Each-at}
 use Rattle.eris_agreement.specs.Alone.{state_of, stamping_of}
 use Rattle.eris_agreement.specs.ClosedBelow.{closed_below}
 use Rattle.eris_agreement.specs.EpochRuns.{servers_at}
-use Rattle.eris_agreement.specs.Servers.{Servers, servers_of}
-use Rattle.eris_agreement.specs.WorldMoments.{moment_from, world_at}
+use Rattle.eris_agreement.specs.Servers.{Servers}
+use Rattle.eris_agreement.specs.WorldMoments.{moment_from}
 use Rattle.eris_agreement.proofs.ClosedLaws.{closed_below-kept, left_behind-epoch}
 use Rattle.eris_agreement.proofs.CoordLeaves.{CoordLeaf, noting}
 use Rattle.eris_agreement.proofs.EpochGrowth.{TellsSent, IsAfter, is_after}
 use Rattle.eris_agreement.proofs.EpochInvariants.{HoldOfEpochs, IsNotedRight, noted_more, holds_at}
-use Rattle.eris_agreement.proofs.Moves.{Move, Rests, ReplicaMoves, CoordinatorMoves, AsksAgain, Nudges, Stamps, Replaces, Asks, coordinator_moved, next_move}
+use Rattle.eris_agreement.proofs.Moves.{Move, Rests, ReplicaMoves, CoordinatorMoves, AsksAgain, Nudges, Stamps, Replaces, Asks, next_move}
 
 pub last_or : (j k : ℕ) → j ≤ suc k → (j ≤ k) ⊎ (j ≡ suc k)
 last_or j k h = grind arith

@@ -1,11 +1,10 @@
 -- What is said in an epoch is of that epoch: so is the packet, place, part or stamp that a message carries.
-use Rattle.std.proofs.Common.{◌≡◌, ℕ, List, [], ◌∷◌, Option, Some, None, refl, sym, ap, ◌∙◌, subst}
+use Rattle.std.proofs.Common.{◌≡◌, ℕ, List, [], ◌∷◌, Option, Some, None, refl, subst}
 use Rattle.eris_base.specs.declared.ids.Epoch.{Epoch}
 use Rattle.eris_base.specs.declared.ids.Place.{Place}
 use Rattle.eris_base.specs.declared.ids.ShardId.{ShardId}
 use Rattle.eris_base.specs.Each.{Each}
 use Rattle.eris_msg.specs.declared.message.Message.{Message}
-use Rattle.eris_rules.specs.EpochMessages.{EpochMessage}
 use Rattle.eris_rules.specs.Outer.{places_in, outer, Inner, inner_of, IsOf}
 use Rattle.eris_rules.proofs.OuterLaws.{Sends, outer-inner_of}
 

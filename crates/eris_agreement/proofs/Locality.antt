@@ -1,7 +1,7 @@
 -- LOCALITY: after a run a replica's state is the fold of its own steps over what its own events brought to it,
 -- whatever happened elsewhere in between.
-use Rattle.std.proofs.Common.{◌≡◌, ◌⊎◌, inl, inr, ℕ, zero, suc, List, [], ◌∷◌, Bool, true, false, cond, ◌&&◌, ◌==◌, Option, Some, None, option_map, refl, sym, ap, ◌∙◌, subst, arith}
-use Rattle.std.specs.Prelude.{slice_get, unwrap_or}
+use Rattle.std.proofs.Common.{◌≡◌, inl, inr, ℕ, zero, suc, List, [], ◌∷◌, Bool, true, false, cond, ◌&&◌, ◌==◌, Option, Some, None, option_map, refl, sym, ap, ◌∙◌, subst, arith}
+use Rattle.std.specs.Prelude.{slice_get}
 use Rattle.std.proofs.lemmas.Bool.{cases_Bool, and_parts, eqb-true}
 use Rattle.std.proofs.lemmas.Bool.Decides.{nat_tests}
 use Rattle.eris_base.specs.declared.ids.ClientId.{ClientId}
@@ -21,9 +21,9 @@ use Rattle.eris_rules.specs.ClientStates.{ClientIdentity, ClientState, ClientOut
 use Rattle.eris_rules.specs.Happenings.{after_replica, replica_steps, replica_takes, after_coordinator, coordinator_takes, after_sequencer, sequencer_takes, after_client, client_acts_by, client_acts, comes_to, arrives, delivers, flows, loses, plan_of_transaction, submitted_at, aborts_plan, happens}
 use Rattle.eris_rules.specs.ReplicaStates.{ReplicaState}
 use Rattle.eris_rules.specs.Replicas.{replica_step}
-use Rattle.eris_rules.specs.Worlds.{WorldState, first_world, replica_at, with_replica, client_at, has_crashed, with_sends, no_longer_waiting}
+use Rattle.eris_rules.specs.Worlds.{WorldState, first_world, replica_at, client_at, has_crashed, with_sends, no_longer_waiting}
 use Rattle.eris_epoch_law.proofs.Frame.{shard_equal, replica_equal}
-use Rattle.eris_agreement.specs.OwnSteps.{lowest, delivered_by, is_it, brought, replica_hears, hears, brings, input_of, after_input, input_now, own_steps}
+use Rattle.eris_agreement.specs.OwnSteps.{lowest, is_it, brought, replica_hears, hears, input_of, after_input, input_now, own_steps}
 use Rattle.eris_agreement.specs.WorldMoments.{perhaps, moment_from, world_at}
 use Rattle.eris_agreement.proofs.Cells.{cell, cell-same}
 

@@ -1,7 +1,7 @@
 -- What an event can do to the servers. An event is a step of one node, or nothing: the step of a whole world is
 -- taken apart here once, and every law of runs is one match on these cases.
-use Rattle.std.proofs.Common.{◌≡◌, ℕ, zero, suc, ◌≤◌, List, [], ◌∷◌, ◌++◌, Bool, true, false, Option, Some, None, refl, sym, ap, ◌∙◌, arith}
-use Rattle.std.specs.Prelude.{if◌then◌else◌, slice_get, slice_set, unwrap_or}
+use Rattle.std.proofs.Common.{◌≡◌, ℕ, suc, ◌≤◌, List, [], ◌∷◌, ◌++◌, true, false, Option, Some, None, refl, arith}
+use Rattle.std.specs.Prelude.{slice_get, slice_set, unwrap_or}
 use Rattle.std.proofs.lemmas.Bool.{cond_both}
 use Rattle.std.proofs.lemmas.Bool.Decides.{nat_tests}
 use Rattle.eris_base.specs.declared.ids.ClientId.{ClientId}
@@ -20,7 +20,7 @@ use Rattle.eris_msg.specs.declared.message.Message.{Message}
 use Rattle.eris_msg.specs.declared.outgoing.Outgoing.{Outgoing}
 use Rattle.eris_script.specs.declared.event.Event.{Event}
 use Rattle.eris_sequencer.specs.declared.stamping.Stamping.{Stamping}
-use Rattle.eris_sequencer.specs.Asks.{sends_of, sends_stamped, stamp_message, Asked, asked_by, ask}
+use Rattle.eris_sequencer.specs.Asks.{sends_of, sends_stamped, stamp_message, asked_by, ask}
 use Rattle.eris_sequencer.specs.Sequencers.{newest_of, replace, is_in_place, stamp_at, no_stamp, stamp_by, stamp, Stamped}
 use Rattle.eris_sequencer.specs.Stamps.{is_full, next_packet, stamped_next}
 use Rattle.eris_rules.specs.declared.coord_input.CoordInput.{CoordInput}
@@ -32,7 +32,6 @@ use Rattle.eris_rules.specs.CoordStates.{CoordOut, is_frozen}
 use Rattle.eris_rules.specs.EpochCoords.{nudge_row}
 use Rattle.eris_rules.specs.Happenings.{after_replica, replica_steps, replica_takes, after_coordinator, coordinator_takes, after_sequencer, sequencer_takes, after_client, client_acts_by, client_acts, comes_to, arrives, delivers, flows, loses, plan_of_transaction, submitted_at, aborts_plan, happens}
 use Rattle.eris_rules.specs.ReplicaStates.{Identity, ReplicaState, ReplicaOut}
-use Rattle.eris_rules.specs.Replicas.{replica_step}
 use Rattle.eris_rules.specs.Worlds.{WorldState, replica_at, with_replica, client_at, has_crashed, with_sends, no_longer_waiting}
 use Rattle.eris_epoch_law.specs.Members.{In}
 use Rattle.eris_epoch_law.proofs.Members.{In-get}

@@ -1,6 +1,6 @@
 -- EACH EPOCH OF A RUN IS A RUN OF THE MACHINE OF ONE EPOCH, moment by moment. So all that is shown of one epoch by
 -- itself holds in each epoch of every run.
-use Rattle.std.proofs.Common.{◌≡◌, ◌⊎◌, inl, inr, ℕ, zero, suc, ◌+◌, ◌<◌, ◌≤◌, List, [], ◌∷◌, ◌++◌, length, replicate, map, Option, Some, None, refl, sym, ap, ◌∙◌, subst, arith}
+use Rattle.std.proofs.Common.{◌≡◌, ◌⊎◌, inl, inr, ℕ, zero, suc, ◌+◌, ◌<◌, ◌≤◌, List, [], ◌∷◌, ◌++◌, length, replicate, map, Some, refl, sym, ap, ◌∙◌, subst, arith}
 use Rattle.std.specs.List.{range_with_len}
 use Rattle.std.specs.Prelude.{slice_get}
 use Rattle.eris_base.specs.declared.ids.Epoch.{Epoch}
@@ -10,7 +10,6 @@ use Rattle.eris_base.specs.declared.ids.ShardId.{ShardId}
 use Rattle.eris_base.specs.ConfigLimits.{ConfigValue}
 use Rattle.eris_base.specs.Each.{Each}
 use Rattle.eris_base.proofs.Each.{Each-right, Each-weaker}
-use Rattle.eris_txn.specs.declared.packet.Packet.{Packet}
 use Rattle.eris_epoch.specs.Closing.{shard_log}
 use Rattle.eris_msg.specs.declared.message.Message.{Message}
 use Rattle.eris_script.specs.declared.event.Event.{Event}
@@ -23,13 +22,12 @@ use Rattle.eris_rules.specs.EpochCoords.{epoch_coord_step, nudge_row}
 use Rattle.eris_rules.specs.EpochMessages.{EpochMessage, EpochSend}
 use Rattle.eris_rules.specs.EpochReplicas.{EpochInput, epoch_step}
 use Rattle.eris_rules.specs.Outer.{inner_of}
-use Rattle.eris_rules.specs.ReplicaStates.{Member, EpochReplica, ReplicaState, first_state, begun, fresh}
+use Rattle.eris_rules.specs.ReplicaStates.{EpochReplica, ReplicaState, first_state, begun, fresh}
 use Rattle.eris_rules.specs.Replicas.{member}
 use Rattle.eris_rules.specs.Worlds.{first_world, first_replicas, in_row, replica_at}
-use Rattle.eris_epoch_law.specs.EpochWorlds.{EpochSystem, EpochWorld, EpochEvent, member_of, first_epoch_world, fresh_replicas, after_replica, after_coordinator, Nudges, happens, perhaps, moment}
+use Rattle.eris_epoch_law.specs.EpochWorlds.{EpochSystem, EpochWorld, EpochEvent, first_epoch_world, fresh_replicas, after_replica, after_coordinator, Nudges, happens, perhaps, moment}
 use Rattle.eris_epoch_law.specs.Fine.{IsFineMessage, known_in}
 use Rattle.eris_epoch_law.specs.Members.{In}
-use Rattle.eris_epoch_law.specs.Stamped.{IsStampingOf}
 use Rattle.eris_epoch_law.proofs.FineWorlds.{all_fine}
 use Rattle.eris_epoch_law.proofs.Frame.{first_fresh}
 use Rattle.eris_epoch_law.proofs.Members.{OfMessage}
@@ -42,7 +40,7 @@ use Rattle.eris_agreement.specs.WorldMoments.{moment_from}
 use Rattle.eris_agreement.proofs.Cells.{state_of-some}
 use Rattle.eris_agreement.proofs.EpochInvariants.{first_states, holds_at}
 use Rattle.eris_agreement.proofs.FollowSteps.{SayTheirEpochs, by_input, by_notice, nudge_happens, inner_at, same_member, follow}
-use Rattle.eris_agreement.proofs.Growth.{closed_kept, current_rises, last_or}
+use Rattle.eris_agreement.proofs.Growth.{closed_kept, last_or}
 use Rattle.eris_agreement.proofs.Moves.{me_at, Came, next_move}
 use Rattle.eris_agreement.proofs.ReplicaLeaves.{Means}
 use Rattle.eris_agreement.proofs.SaidIn.{SaidIn, fine_said}
@@ -79,8 +77,8 @@ said_then : (system : EpochSystem) (own : List EpochEvent) (event : EpochEvent) 
 said_then system own event k sends count e =
     let all = (all_fine system (own ++ event ∷ []) (suc k)).sent in
     let said : Each (λ (one : EpochSend). SaidIn system.epoch one.message) (moment system (own ++ event ∷ []) (suc k)).sent =
-        Each-weaker (OfMessage (IsFineMessage system.epoch (known_in (moment system (own ++ event ∷ []) (suc k))))) (λ (one : EpochSend). SaidIn system.epoch one.message)
-        (λ one fine. fine_said system.epoch (known_in (moment system (own ++ event ∷ []) (suc k))) one.message fine) (moment system (own ++ event ∷ []) (suc k)).sent all in
+    Each-weaker (OfMessage (IsFineMessage system.epoch (known_in (moment system (own ++ event ∷ []) (suc k))))) (λ (one : EpochSend). SaidIn system.epoch one.message)
+    (λ one fine. fine_said system.epoch (known_in (moment system (own ++ event ∷ []) (suc k))) one.message fine) (moment system (own ++ event ∷ []) (suc k)).sent all in
     Each-right (λ (one : EpochSend). SaidIn system.epoch one.message) (moment system own k).sent sends
     (subst (λ list. Each (λ (one : EpochSend). SaidIn system.epoch one.message) list) (ap (λ (w : EpochWorld). w.sent) (moment-more system own event k count) ∙ e) said)
 
@@ -230,26 +228,31 @@ module _ (config : ConfigValue) (events : List Event) (last : ℕ) where
         let more = follow config epoch (system epoch).prior (at k) (alone epoch) (is_alone epoch) say (has_prior_at k le epoch) (at (suc k)) (next_move config events k) in
         let run = own_run epoch in
         let list : List EpochEvent = own epoch ++ more.0 ∷ [] in
-        let next : moment (system epoch) list (suc k) ≡ happens (system epoch) (alone epoch) more.0 = moment-more (system epoch) (own epoch) more.0 k run.count in
-        (list, record {
-          count = length-more (own epoch) more.0 ∙ ap suc run.count;
-          alone = λ n low. elim (last_or n k low) [
-            | inl i ↦ subst (IsAlone (system epoch) (at n)) (sym (moment-front (system epoch) (own epoch) (more.0 ∷ []) n (omega (arith, run.count, i)))) (run.alone n i)
-            | inr e ↦ subst (λ m. IsAlone (system epoch) (at m) (moment (system epoch) list m)) (sym e) (subst (IsAlone (system epoch) (at (suc k))) (sym next) more.1.is_alone)
-          ];
-          step = λ n low. elim (last_or n k (omega (arith, low))) [
-            | inl i ↦ by_step epoch more.0 next more.1 n (at_last n k i)
-            | inr e ↦ absurd (omega (arith, low, e))
-          ];
-        })
+        let next : moment (system epoch) list (suc k) ≡ happens (system epoch) (alone epoch) more.0 = moment-more (system epoch) (own epoch) more.0 k run.count in (
+          list,
+          record {
+            count = length-more (own epoch) more.0 ∙ ap suc run.count;
+            alone = λ n low. elim (last_or n k low) [
+              | inl i ↦ subst (IsAlone (system epoch) (at n)) (sym (moment-front (system epoch) (own epoch) (more.0 ∷ []) n (omega (arith, run.count, i)))) (run.alone n i)
+              | inr e ↦ subst (λ m. IsAlone (system epoch) (at m) (moment (system epoch) list m)) (sym e) (subst (IsAlone (system epoch) (at (suc k))) (sym next) more.1.is_alone)
+            ];
+            step = λ n low. elim (last_or n k (omega (arith, low))) [
+              | inl i ↦ by_step epoch more.0 next more.1 n (at_last n k i)
+              | inr e ↦ absurd (omega (arith, low, e))
+            ];
+          },
+        )
 
   first_run : (epoch : Epoch) → Run 0 epoch
   unfolding Run moment moment_from
-  first_run epoch = ([], record {
-    count = refl;
-    alone = λ n low. let e : 0 ≡ n = omega arith in subst (λ m. IsAlone (system epoch) (at m) (moment (system epoch) [] m)) e (first_alone (system epoch));
-    step = λ n low. absurd (omega arith);
-  })
+  first_run epoch = (
+    [],
+    record {
+      count = refl;
+      alone = λ n low. let e : 0 ≡ n = omega arith in subst (λ m. IsAlone (system epoch) (at m) (moment (system epoch) [] m)) e (first_alone (system epoch));
+      step = λ n low. absurd (omega arith);
+    },
+  )
 
   -- THE REDUCTION
   runs_upto : (k : ℕ) → k ≤ last → (epoch : Epoch) → Run k epoch

@@ -1,7 +1,7 @@
 -- What a step of a replica can be, seen from outside its epoch: nothing, a step within its epoch, a question for
 -- an epoch's start, a promise, or the beginning of an epoch. The rows that speak of epochs are taken apart here
 -- once, and every fact on epochs is one match on these five cases.
-use Rattle.std.proofs.Common.{◌≡◌, ◌⊎◌, inl, inr, ℕ, ◌<◌, ◌≤◌, List, Bool, true, false, not, ◌==◌, ◌&&◌, ◌||◌, nat_lt, nat_le, Option, Some, None, refl, sym, ap, ◌∙◌, subst, arith}
+use Rattle.std.proofs.Common.{◌≡◌, ◌⊎◌, inl, inr, ◌<◌, ◌≤◌, List, Bool, true, false, ◌==◌, ◌&&◌, ◌||◌, nat_lt, Option, Some, None, refl, ap, ◌∙◌, arith}
 use Rattle.std.specs.Prelude.{if◌then◌else◌}
 use Rattle.std.proofs.lemmas.Bool.{cond_both, eqb-true, and_parts, or_cases, ltb-true, leb-true, not-true}
 use Rattle.std.proofs.lemmas.Bool.Decides.{nat_tests}
@@ -11,11 +11,11 @@ use Rattle.eris_txn.specs.declared.packet.Packet.{Packet}
 use Rattle.eris_msg.specs.declared.message.Message.{Message}
 use Rattle.eris_rules.specs.declared.replica_input.ReplicaInput.{ReplicaInput}
 use Rattle.eris_rules.specs.EpochMessages.{EpochMessage, Stamped, Instructs, Notifies, Exchanges, Responds}
-use Rattle.eris_rules.specs.EpochReplicas.{EpochInput, Get, Probe, Suspect, Sync, epoch_step}
+use Rattle.eris_rules.specs.EpochReplicas.{EpochInput, Get, Probe, Suspect, Sync}
 use Rattle.eris_rules.specs.InPlace.{is_in_place_at_replica}
 use Rattle.eris_rules.specs.Outer.{Inner, inner_of}
 use Rattle.eris_rules.specs.ReplicaStates.{Identity, ReplicaState, ReplicaOut, begun, is_stopped}
-use Rattle.eris_rules.specs.Replicas.{still, member, steps_in, steps, asks_start, later_txn, takes_other, takes_part_in, takes_inner, may_promise, promises, epoch_ask_row, may_begin, start_epoch_row, takes_outer, takes_said, takes, message_step, probe_step, timer_step, replica_step}
+use Rattle.eris_rules.specs.Replicas.{still, steps, asks_start, later_txn, takes_other, takes_part_in, takes_inner, may_promise, promises, epoch_ask_row, may_begin, start_epoch_row, takes_outer, takes_said, takes, message_step, probe_step, timer_step, replica_step}
 
 -- epochs are their numbers
 pub epoch_equal : (a b : Epoch) → a.0 ≡ b.0 → a ≡ b
@@ -64,8 +64,8 @@ module _ (me : Identity) (state : ReplicaState) where
   unfolding takes_inner
   leaf_inner message inner ok is = choose _ (takes_part_in state inner.epoch) _ _
       (λ h. let own : inner.epoch ≡ state.epoch = epoch_equal _ _ (eqb-true _ _ (and_parts _ _ h).0) in
-          Within _ (Get inner.message) (not_stopped (not-true _ (and_parts _ _ h).1))
-          (Says message inner.message ok (is ∙ ap (λ (e : Epoch). Some (record { epoch = e; message = inner.message })) own)))
+      Within _ (Get inner.message) (not_stopped (not-true _ (and_parts _ _ h).1))
+      (Says message inner.message ok (is ∙ ap (λ (e : Epoch). Some (record { epoch = e; message = inner.message })) own)))
       (λ h. leaf_other _ inner.epoch inner.message)
 
   leaf_ask : (epoch : Epoch) → ReplicaLeaf me state (ReplicaInput.Message (Message.EpochAsk epoch)) (epoch_ask_row me state epoch)
@@ -88,7 +88,7 @@ module _ (me : Identity) (state : ReplicaState) where
   unfolding start_epoch_row may_begin
   leaf_start epoch shard packets = choose _ _ _ _
       (λ h. let rest = (and_parts _ _ h).1 in
-          Begins epoch shard packets (λ i. record { 0 = eqb-true shard.0 me.shard.0 (and_parts _ _ h).0 i }) (ltb-true _ _ (and_parts _ _ rest).0) (leb-true _ _ (and_parts _ _ rest).1))
+      Begins epoch shard packets (λ i. record { 0 = eqb-true shard.0 me.shard.0 (and_parts _ _ h).0 i }) (ltb-true _ _ (and_parts _ _ rest).0) (leb-true _ _ (and_parts _ _ rest).1))
       (λ h. Nothing _)
 
   leaf_outer : (message : Message) → ReplicaLeaf me state (ReplicaInput.Message message) (takes_outer me state message)

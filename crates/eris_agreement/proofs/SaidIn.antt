@@ -1,10 +1,9 @@
 -- What a step within an epoch says is of that epoch, so the messages that are sent for it say it in no other one.
-use Rattle.std.proofs.Common.{◌≡◌, ◌⊎◌, inl, inr, ℕ, ◌+◌, ◌*◌, List, [], ◌∷◌, ◌++◌, map, Option, Some, None, refl, sym, ap, ◌∙◌, subst}
+use Rattle.std.proofs.Common.{◌≡◌, inl, inr, ℕ, ◌+◌, ◌*◌, List, [], ◌∷◌, ◌++◌, map, Some, None, refl, sym, ap, ◌∙◌}
 use Rattle.std.specs.List.{flat_map, range_with_len}
 use Rattle.eris_base.specs.declared.ids.Epoch.{Epoch}
 use Rattle.eris_base.specs.declared.ids.Node.{Node}
 use Rattle.eris_base.specs.declared.ids.Node.TheVariants.{Replica}
-use Rattle.eris_base.specs.declared.ids.Place.{Place}
 use Rattle.eris_base.specs.declared.ids.ShardId.{ShardId}
 use Rattle.eris_base.specs.ConfigLimits.{ConfigValue}
 use Rattle.eris_base.specs.Each.{Each}
@@ -14,8 +13,8 @@ use Rattle.eris_msg.specs.declared.message.Message.{Message}
 use Rattle.eris_msg.specs.declared.outgoing.Outgoing.{Outgoing}
 use Rattle.eris_sequencer.specs.Asks.{sends_to, sends_of}
 use Rattle.eris_rules.specs.Addressees.{shard_replicas}
-use Rattle.eris_rules.specs.EpochMessages.{EpochMessage, EpochSend, Stamped, Instructs, Notifies, Exchanges, Responds, Instruction, Request, Found, Dropped, Notice, Find, Has, TempDropped, Exchange, ViewChange, StartView, SyncAsk, Ack, Settled, Response, Vouch, Reply, Late, send_each}
-use Rattle.eris_rules.specs.Outer.{outer, outer_send, outer_sends, tell_each, Inner, said_in, inner_of, IsOf}
+use Rattle.eris_rules.specs.EpochMessages.{EpochMessage, EpochSend, Stamped, Instructs, Notifies, Exchanges, Responds, Vouch, Reply, Late, send_each}
+use Rattle.eris_rules.specs.Outer.{outer, outer_sends, Inner, said_in, inner_of, IsOf}
 use Rattle.eris_rules.proofs.OuterLaws.{inner_of-outer, outer_sends-append}
 use Rattle.eris_epoch_law.specs.EpochWorlds.{packet_sends}
 use Rattle.eris_epoch_law.specs.Fine.{KnownLists, IsFineMessage}

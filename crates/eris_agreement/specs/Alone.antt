@@ -1,13 +1,11 @@
 -- How an epoch of a whole world looks alone: the machine of one epoch in which every replica is fresh until it
 -- begins the epoch, and stays as it was once it has gone on.
-use Rattle.std.specs.Prelude.{◌≡◌, ℕ, ◌<◌, Option, Some, None, List, slice_get}
+use Rattle.std.specs.Prelude.{◌≡◌, ◌<◌, Option, Some, None, List, slice_get}
 use Rattle.eris_base.specs.declared.ids.Epoch.{Epoch}
 use Rattle.eris_base.specs.declared.ids.Node.{Node}
 use Rattle.eris_base.specs.declared.ids.ReplicaId.{ReplicaId}
 use Rattle.eris_base.specs.declared.ids.ShardId.{ShardId}
 use Rattle.eris_base.specs.ConfigLimits.{ConfigValue}
-use Rattle.eris_txn.specs.declared.packet.Packet.{Packet}
-use Rattle.eris_epoch.specs.Closing.{shard_log}
 use Rattle.eris_msg.specs.declared.message.Message.{Message}
 use Rattle.eris_sequencer.specs.declared.stamping.Stamping.{Stamping}
 use Rattle.eris_sequencer.specs.Sequencers.{new_stamping}

@@ -27,4 +27,4 @@ pub record IsEpochRun (config : ConfigValue) (events : List Event) (last : ℕ) 
   pub alone : (number : ℕ) → number ≤ upto → IsAlone (system_of config events last epoch) (servers_at config events number) (moment (system_of config events last epoch) own number)
   pub step : (number : ℕ) → number < upto
       → Follows (system_of config events last epoch) (servers_at config events number) (servers_at config events (suc number))
-        (moment (system_of config events last epoch) own number) (moment (system_of config events last epoch) own (suc number))
+      (moment (system_of config events last epoch) own number) (moment (system_of config events last epoch) own (suc number))

@@ -1,21 +1,18 @@
 -- CLOSING KEEPS WHAT WAS SPOKEN PAST. What a noted replica ever held in an epoch is in its noted part: from its
 -- promise on it is frozen there, and before it it grew. So where a quorum had no gap up to a number, one of it is
 -- among the noted ones of its shard, and its packet there is closed, unless it is dropped.
-use Rattle.std.proofs.Common.{◌≡◌, ◌⊎◌, inl, inr, ℕ, zero, suc, ◌+◌, ◌*◌, ◌<◌, ◌≤◌, List, [], ◌∷◌, ◌++◌, map, filter, find, option_map, Bool, true, false, cond, not, nat_lt, ◌&&◌, ◌==◌, Option, Some, None, refl, sym, ap, ◌∙◌, subst, arith}
-use Rattle.std.specs.List.{flat_map, list_any}
-use Rattle.std.specs.Set.{is_member}
-use Rattle.std.proofs.lemmas.Bool.{cases_eq, cases_lt, cases_Bool, and_parts, eqb-true, ltb-true}
+use Rattle.std.proofs.Common.{◌≡◌, ◌⊎◌, inl, inr, ℕ, zero, suc, ◌+◌, ◌*◌, ◌<◌, ◌≤◌, List, [], ◌∷◌, ◌++◌, map, filter, find, option_map, Bool, true, false, cond, not, nat_lt, ◌&&◌, ◌==◌, Some, None, refl, sym, ap, ◌∙◌, subst, arith}
+use Rattle.std.specs.List.{flat_map}
+use Rattle.std.proofs.lemmas.Bool.{cases_eq, cases_lt, eqb-true}
 use Rattle.std.proofs.lemmas.Bool.Decides.{nat_tests}
 use Rattle.eris_base.specs.declared.ids.Epoch.{Epoch}
 use Rattle.eris_base.specs.declared.ids.Node.TheVariants.{Coordinator}
 use Rattle.eris_base.specs.declared.ids.ReplicaId.{ReplicaId}
 use Rattle.eris_base.specs.declared.ids.ShardId.{ShardId}
-use Rattle.eris_base.specs.declared.ids.View.{View}
 use Rattle.eris_base.specs.ConfigLimits.{ConfigValue}
 use Rattle.eris_base.specs.Each.{Each}
 use Rattle.eris_base.specs.Quorums.{has_replica, same_replica, are_quorum}
 use Rattle.eris_txn.specs.declared.packet.Packet.{Packet}
-use Rattle.eris_log.specs.declared.entry.Entry.{Entry}
 use Rattle.eris_log.specs.Held.{packet_at}
 use Rattle.eris_log.specs.PartValues.{PartValue}
 use Rattle.eris_log.specs.Parts.{empty_part}
@@ -23,33 +20,29 @@ use Rattle.eris_log.specs.Places.{any_among}
 use Rattle.eris_epoch.specs.declared.noted.NotedPart.{NotedPart}
 use Rattle.eris_epoch.specs.Closing.{held_of, held_in}
 use Rattle.eris_epoch.specs.EpochTallies.{replicas_of, is_ready}
-use Rattle.eris_epoch.specs.SamePackets.{is_listed}
 use Rattle.eris_epoch.proofs.EpochLaws.{IsClosing-close, ready_has_quorum}
 use Rattle.eris_msg.specs.declared.message.Message.{Message}
 use Rattle.eris_msg.specs.declared.outgoing.Outgoing.{Outgoing}
 use Rattle.eris_script.specs.declared.event.Event.{Event}
-use Rattle.eris_rules.specs.Addressees.{replica_count}
 use Rattle.eris_rules.specs.Coordinators.{coord_steps_in, starts, raises_target, epoch_tally, left_behind, after_closing, closes}
 use Rattle.eris_rules.specs.CoordStates.{EpochCoord, CoordState, CoordOut, begun_epoch, first_coordinator}
 use Rattle.eris_rules.specs.ReplicaStates.{EpochReplica, ReplicaState, fresh}
 use Rattle.eris_rules.specs.Worlds.{first_world}
-use Rattle.eris_epoch_law.specs.EpochWorlds.{EpochSystem, EpochWorld, EpochEvent, moment}
+use Rattle.eris_epoch_law.specs.EpochWorlds.{EpochSystem, EpochWorld, moment}
 use Rattle.eris_epoch_law.specs.Members.{In}
 use Rattle.eris_epoch_law.specs.Reading.{read}
-use Rattle.eris_epoch_law.specs.Stamped.{HasNumber}
 use Rattle.eris_epoch_law.proofs.Frame.{shard_equal, replica_equal}
 use Rattle.eris_epoch_law.proofs.FineWorlds.{all_fine}
-use Rattle.eris_epoch_law.proofs.Members.{Each-at, Each-by_In, In-append, In-left, In-right, In-filtered, any_witness}
+use Rattle.eris_epoch_law.proofs.Members.{Each-at, Each-by_In, In-left, In-right, In-filtered, any_witness}
 use Rattle.eris_epoch_law.proofs.Moments.{later}
 use Rattle.eris_agreement.specs.Alone.{state_of, IsAlone, Follows}
-use Rattle.eris_agreement.specs.EpochRuns.{servers_at, system_of, IsEpochRun}
+use Rattle.eris_agreement.specs.EpochRuns.{servers_at, system_of}
 use Rattle.eris_agreement.specs.Servers.{Servers}
 use Rattle.eris_agreement.specs.WorldMoments.{moment_from}
-use Rattle.eris_agreement.proofs.ClosedLaws.{listed-In, In-listed, In-map, map-In, left_behind-In, left_behind-epoch, held_right-epoch}
+use Rattle.eris_agreement.proofs.ClosedLaws.{listed-In, In-listed, In-map, map-In}
 use Rattle.eris_agreement.proofs.CoordLeaves.{CoordLeaf, noting}
-use Rattle.eris_agreement.proofs.EpochGrowth.{TellsSent}
 use Rattle.eris_agreement.proofs.EpochInvariants.{HoldOfEpochs, IsNotedRight, noted_more, holds_at}
-use Rattle.eris_agreement.proofs.Growth.{over, epoch_rises, promise_rises, current_rises, cause}
+use Rattle.eris_agreement.proofs.Growth.{over, promise_rises, current_rises, cause}
 use Rattle.eris_agreement.proofs.Moves.{Move, Rests, ReplicaMoves, CoordinatorMoves, AsksAgain, Nudges, Stamps, Replaces, Asks, coordinator_moved, next_move}
 use Rattle.eris_agreement.proofs.Reduction.{own_events, is_epoch_run}
 use Rattle.eris_agreement.proofs.ReplicaLeaves.{epoch_equal}
@@ -219,7 +212,8 @@ module _ (config : ConfigValue) (events : List Event) (last : ℕ) where
       let told = why.2 in
       let shard : told.0 ≡ one.part.shard = sym (own_shard moment (omega arith) told.0 one.replica) ∙ ap (λ (p : PartValue). p.shard) told.2 in
       record {
-        moment = moment; by = omega arith;
+        moment = moment;
+        by = omega arith;
         promised = subst (λ s. (state_of (at moment).replicas s one.replica).promised ≡ target) shard told.1;
         same = subst (λ s. (state_of (at moment).replicas s one.replica).inner.part ≡ one.part) shard told.2;
       }
@@ -295,13 +289,13 @@ module _ (config : ConfigValue) (events : List Event) (last : ℕ) where
       let same_replica_of : replica ≡ one.0.replica = replica_equal _ _ one.3 in
       let target_up : epoch.0 < (at j).coordinator.target.0 = subst (λ (e : Epoch). epoch.0 < e.0) closing.current up in
       let held : packet_at (then epoch m one.0.part.shard one.0.replica).part.held number ≡ Some packet =
-          subst (λ s. packet_at (then epoch m s one.0.replica).part.held number ≡ Some packet) (sym same_shard) (subst (λ r. packet_at (then epoch m shard r).part.held number ≡ Some packet) same_replica_of h) in
+      subst (λ s. packet_at (then epoch m s one.0.replica).part.held number ≡ Some packet) (sym same_shard) (subst (λ r. packet_at (then epoch m shard r).part.held number ≡ Some packet) same_replica_of h) in
       let kept = held_noted j low_j epoch (at j).coordinator.target one.0.part.shard one.0.replica one.0.part noted low target_up m number packet top held in
       let inner : (alone epoch j).coordinator ≡ (at j).coordinator.inner = (is_alone epoch j low_j).coordinator kept.current in
       subst (λ list. In packet list) (sym closing.list)
       (In-right packet (at j).coordinator.closed _
-        (has_left config (noting (at j).coordinator closing.replica closing.part) one.0 number packet one.1 (kept.of_epoch ∙ sym kept.current) (packet_at-In one.0.part.held number packet kept.held)
-          (ap (λ (c : EpochCoord). any_among c.dropped packet.stamp) (sym inner) ∙ clear)))
+      (has_left config (noting (at j).coordinator closing.replica closing.part) one.0 number packet one.1 (kept.of_epoch ∙ sym kept.current) (packet_at-In one.0.part.held number packet kept.held)
+      (ap (λ (c : EpochCoord). any_among c.dropped packet.stamp) (sym inner) ∙ clear)))
 
   more_than : (f n : ℕ) → f < n → nat_lt f n ≡ true
   more_than f n lt = grind (arith, nat_tests)

@@ -1,7 +1,7 @@
 -- What is stamped in a closed epoch from then on is never in the order: an earlier sequencer may go on, and a
 -- skipped epoch's too, but nothing of it is ever closed or current. So what stands in the order and was stamped
 -- after a moment is of an epoch that wasn't yet left behind then.
-use Rattle.std.proofs.Common.{◌≡◌, ◌⊎◌, inl, inr, ℕ, suc, ◌+◌, ◌<◌, ◌≤◌, List, [], ◌∷◌, Bool, true, false, cond, ◌==◌, ◌&&◌, ◌||◌, nat_lt, not, refl, sym, ap, ◌∙◌, subst, arith}
+use Rattle.std.proofs.Common.{◌≡◌, ◌⊎◌, inl, inr, ℕ, ◌+◌, ◌<◌, ◌≤◌, List, [], ◌∷◌, Bool, true, false, cond, ◌==◌, nat_lt, refl, sym, ap, ◌∙◌, subst, arith}
 use Rattle.std.specs.List.{filter}
 use Rattle.std.proofs.lemmas.Bool.{and_parts, cases_lt, eqb-true, or_cases}
 use Rattle.std.proofs.lemmas.Bool.Decides.{nat_tests}
@@ -9,7 +9,6 @@ use Rattle.eris_base.specs.declared.ids.Epoch.{Epoch}
 use Rattle.eris_base.specs.ConfigLimits.{ConfigValue}
 use Rattle.eris_txn.specs.declared.packet.Packet.{Packet}
 use Rattle.eris_script.specs.declared.event.Event.{Event}
-use Rattle.eris_sequencer.specs.declared.stamping.Stamping.{Stamping}
 use Rattle.eris_epoch.specs.SamePackets.{is_listed}
 use Rattle.eris_rules.specs.WorldOrders.{stamping_list, survives_now, survives, order}
 use Rattle.eris_epoch_law.specs.Members.{In}

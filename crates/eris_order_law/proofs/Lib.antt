@@ -1,3 +1,4 @@
 pub mod Closings
 pub mod SpokenClosed
 pub mod LaterStamps
+pub mod StampFronts

@@ -1,7 +1,7 @@
 -- Once an epoch is left behind, an undropped packet that a quorum spoke past is closed; and a closed packet was
 -- stamped in its epoch before that was closed, and isn't dropped there. So what a client counted is never lost, and
 -- nothing that is stamped in a closed epoch from then on is ever in the order.
-use Rattle.std.proofs.Common.{◌≡◌, ◌⊎◌, inl, inr, ℕ, zero, suc, ◌+◌, ◌*◌, ◌<◌, ◌≤◌, List, [], ◌∷◌, ◌++◌, Bool, true, false, Some, refl, sym, ap, ◌∙◌, subst, arith}
+use Rattle.std.proofs.Common.{◌≡◌, ◌⊎◌, inl, inr, ℕ, zero, suc, ◌<◌, ◌≤◌, List, [], ◌∷◌, true, false, Some, refl, sym, ap, ◌∙◌, subst, arith}
 use Rattle.std.specs.List.{AllByRecursion}
 use Rattle.eris_base.specs.declared.ids.Epoch.{Epoch}
 use Rattle.eris_base.specs.declared.ids.ReplicaId.{ReplicaId}
@@ -9,8 +9,6 @@ use Rattle.eris_base.specs.declared.ids.ShardId.{ShardId}
 use Rattle.eris_base.specs.declared.ids.View.{View}
 use Rattle.eris_base.specs.ConfigLimits.{ConfigValue}
 use Rattle.eris_txn.specs.declared.packet.Packet.{Packet}
-use Rattle.eris_log.specs.declared.entry.Entry.{Entry}
-use Rattle.eris_log.specs.Entries.{entry_of, is_dropped}
 use Rattle.eris_log.specs.Held.{packet_at}
 use Rattle.eris_log.specs.PartValues.{PartValue}
 use Rattle.eris_log.specs.Places.{any_among}
@@ -21,11 +19,10 @@ use Rattle.eris_script.specs.declared.event.Event.{Event}
 use Rattle.eris_sequencer.specs.declared.stamping.Stamping.{Stamping}
 use Rattle.eris_rules.specs.Coordinators.{left_behind}
 use Rattle.eris_rules.specs.CoordStates.{EpochCoord, begun_epoch, first_coordinator}
-use Rattle.eris_rules.specs.ReplicaStates.{EpochReplica, ReplicaState}
+use Rattle.eris_rules.specs.ReplicaStates.{EpochReplica}
 use Rattle.eris_rules.specs.Worlds.{first_world}
 use Rattle.eris_epoch_law.specs.EpochWorlds.{EpochSystem, EpochWorld, EpochEvent}
 use Rattle.eris_epoch_law.specs.Members.{In}
-use Rattle.eris_epoch_law.specs.Reading.{read}
 use Rattle.eris_epoch_law.specs.Stamped.{HasNumber}
 use Rattle.eris_epoch_law.proofs.FineWorlds.{all_fine}
 use Rattle.eris_epoch_law.proofs.Members.{Each-at, In-append, In-left}
@@ -122,9 +119,9 @@ module _ (config : ConfigValue) (events : List Event) (last : ℕ) where
       let noted = noted_then config events last k le one (at k).coordinator.target right.sent in
       let by = noted.by in
       let same : (state_of (at noted.moment).replicas one.part.shard one.replica).epoch ≡ epoch =
-          sym (own_epoch config events last noted.moment (omega arith) one.part.shard one.replica) ∙ ap (λ (p : PartValue). p.epoch) noted.same ∙ held.part_epoch in
+      sym (own_epoch config events last noted.moment (omega arith) one.part.shard one.replica) ∙ ap (λ (p : PartValue). p.epoch) noted.same ∙ held.part_epoch in
       let part : (then config events last epoch noted.moment one.part.shard one.replica).part ≡ one.part =
-          ap (λ (x : EpochReplica). x.part) ((is_alone config events last epoch noted.moment (omega arith)).there one.part.shard one.replica same) ∙ noted.same in
+      ap (λ (x : EpochReplica). x.part) ((is_alone config events last epoch noted.moment (omega arith)).there one.part.shard one.replica same) ∙ noted.same in
       let fine = ((all_fine (system epoch) (own epoch) noted.moment).replicas one.part.shard one.replica).part.held in
       let i : In (held.number, packet) (then config events last epoch noted.moment one.part.shard one.replica).part.held = subst (λ (p : PartValue). In (held.number, packet) p.held) (sym part) held.held in
       (later (system epoch) (own epoch) noted.moment k by).stamped packet (all-In _ _ (held.number, packet) fine i).packet.stamped

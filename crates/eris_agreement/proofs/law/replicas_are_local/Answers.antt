@@ -1,4 +1,3 @@
-use Rattle.std.proofs.Common.{subst}
 use Rattle.eris_agreement.proofs.Locality.{local, one_event}
 use Rattle.eris_agreement.proofs.law.replicas_are_local.Goals as goal
 
