@@ -101,7 +101,7 @@ module _ (system : EpochSystem) (stamping : Stamping) (asker : ClientId) (id : T
 
   of_config : are_shards_of system.config shards ≡ true
   unfolding is_in_place
-  of_config = (and_parts _ _ (and_parts _ _ fits).1).1
+  of_config = (and_parts _ _ (and_parts _ _ (and_parts _ _ fits).1).1).0
 
   all_known : list_all (λ one. nat_lt one.0 system.config.shards) shards ≡ true
   unfolding are_shards_of
