@@ -2,3 +2,4 @@ pub mod Closings
 pub mod SpokenClosed
 pub mod LaterStamps
 pub mod StampFronts
+pub mod ShardLists
