@@ -3,3 +3,4 @@ pub mod SpokenClosed
 pub mod LaterStamps
 pub mod StampFronts
 pub mod ShardLists
+pub mod OrderMembers
