@@ -4,3 +4,4 @@ pub mod LaterStamps
 pub mod StampFronts
 pub mod ShardLists
 pub mod OrderMembers
+pub mod ClosedLogs
