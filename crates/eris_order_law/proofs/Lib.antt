@@ -5,3 +5,4 @@ pub mod StampFronts
 pub mod ShardLists
 pub mod OrderMembers
 pub mod ClosedLogs
+pub mod OrderFronts
