@@ -6,3 +6,4 @@ pub mod ShardLists
 pub mod OrderMembers
 pub mod ClosedLogs
 pub mod OrderFronts
+pub mod SettledFronts
