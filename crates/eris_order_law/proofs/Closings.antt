@@ -186,7 +186,7 @@ module _ (config : ConfigValue) (events : List Event) (last : ℕ) where
   closes_at k = closes_or config (at k) (at (suc k)) (holds_at config events k) (next_move config events k)
 
   -- a part is its shard's, and of its replica's epoch
-  own_shard : (k : ℕ) → k ≤ last → (shard : ShardId) (replica : ReplicaId) → (state_of (at k).replicas shard replica).inner.part.shard ≡ shard
+  pub own_shard : (k : ℕ) → k ≤ last → (shard : ShardId) (replica : ReplicaId) → (state_of (at k).replicas shard replica).inner.part.shard ≡ shard
   own_shard k le shard replica =
       let epoch : Epoch = (state_of (at k).replicas shard replica).epoch in
       ap (λ (x : EpochReplica). x.part.shard) (sym ((is_alone epoch k le).there shard replica refl)) ∙ ((all_fine (system epoch) (own_events config events last epoch) k).replicas shard replica).own

@@ -23,7 +23,7 @@ use Rattle.eris_agreement.proofs.Growth.{closed_kept, current_rises}
 use Rattle.eris_order_law.proofs.SpokenClosed.{closed_stamped}
 
 -- what passes a test is among what passes
-filtered-In : {X : Type 0} (test : X → Bool) (xs : List X) (x : X) → In x xs → test x ≡ true → In x (filter test xs)
+pub filtered-In : {X : Type 0} (test : X → Bool) (xs : List X) (x : X) → In x xs → test x ≡ true → In x (filter test xs)
 filtered-In test [] x i h = absurd i
 filtered-In test (y ∷ xs) x i h = by_test (test y) refl i (λ j. filtered-In test xs x j h)
   where
@@ -37,11 +37,11 @@ module _ (config : ConfigValue) (events : List Event) where
   abbrev at : ℕ → Servers
   at k = servers_at config events k
 
-  below-In : (epoch : Epoch) (closed : List Packet) (packet : Packet) → In packet (closed_below epoch closed) → In packet closed
+  pub below-In : (epoch : Epoch) (closed : List Packet) (packet : Packet) → In packet (closed_below epoch closed) → In packet closed
   unfolding closed_below
   below-In epoch closed packet i = (In-filtered (λ (p : Packet). nat_lt p.stamp.epoch.0 epoch.0) closed packet i).0
 
-  In-below : (epoch : Epoch) (closed : List Packet) (packet : Packet) → In packet closed → packet.stamp.epoch.0 < epoch.0 → In packet (closed_below epoch closed)
+  pub In-below : (epoch : Epoch) (closed : List Packet) (packet : Packet) → In packet closed → packet.stamp.epoch.0 < epoch.0 → In packet (closed_below epoch closed)
   unfolding closed_below
   In-below epoch closed packet i lt = filtered-In (λ (p : Packet). nat_lt p.stamp.epoch.0 epoch.0) closed packet i (passes packet.stamp.epoch.0 epoch.0 lt)
     where

@@ -2,3 +2,8 @@ pub mod Closings
 pub mod SpokenClosed
 pub mod LaterStamps
 pub mod StampFronts
+pub mod ShardLists
+pub mod OrderMembers
+pub mod ClosedLogs
+pub mod OrderFronts
+pub mod SettledFronts
