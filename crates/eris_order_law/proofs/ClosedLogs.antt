@@ -1,24 +1,21 @@
 -- A shard's log of closed packets strictly ascends by epoch and number, and its packets are the closed ones that name
 -- the shard. No packet is closed twice: each epoch leaves a packet once, and only packets of its own.
-use Rattle.std.proofs.Common.{◌≡◌, ◌⊎◌, inl, inr, ℕ, zero, suc, ◌+◌, ◌≤◌, ◌<◌, List, [], ◌∷◌, ◌++◌, Bool, true, false, cond, nat_lt, ◌&&◌, refl, sym, ap, ◌∙◌, subst, arith}
+use Rattle.std.proofs.Common.{◌≡◌, ◌⊎◌, inl, inr, ℕ, zero, suc, ◌<◌, List, [], ◌∷◌, ◌++◌, Bool, true, false, cond, nat_lt, ◌&&◌, refl, sym, ap, ◌∙◌, subst, arith}
 use Rattle.std.specs.List.{filter, fold, IsDistinct, AllByRecursion}
 use Rattle.std.specs.Cmp.{nat_cmp_is}
 use Rattle.std.specs.Ordering.{nat_cmp, ordering_then, is_lt}
-use Rattle.std.specs.declared.cmp.Ordering.{Ordering}
 use Rattle.std.specs.declared.cmp.Ordering.TheVariants.{Less, Equal, Greater}
 use Rattle.std.proofs.lemmas.Bool.{and_parts, cases_lt}
 use Rattle.eris_base.specs.declared.ids.Epoch.{Epoch}
 use Rattle.eris_base.specs.declared.ids.ShardId.{ShardId}
 use Rattle.eris_base.specs.ConfigLimits.{ConfigValue}
 use Rattle.eris_base.specs.Each.{Each}
-use Rattle.eris_base.proofs.Each.{Each-append}
 use Rattle.eris_txn.specs.declared.packet.Packet.{Packet}
 use Rattle.eris_locks.specs.Shards.{names_shard}
 use Rattle.eris_log.specs.Sorted.{placed}
 use Rattle.eris_epoch.specs.Closing.{turn_on, shard_log}
 use Rattle.eris_epoch.specs.SamePackets.{same_packet, is_listed}
 use Rattle.eris_epoch.specs.Sorting.{sorted, turn_cmp}
-use Rattle.eris_epoch.specs.declared.noted.NotedPart.{NotedPart}
 use Rattle.eris_epoch.proofs.EpochLaws.{IsClosing-close, IsShardLog-shard_log}
 use Rattle.eris_epoch.proofs.SameLaws.{same_packet-refl, same_packet-true}
 use Rattle.eris_script.specs.declared.event.Event.{Event}
@@ -39,7 +36,7 @@ use Rattle.eris_agreement.proofs.EpochInvariants.{IsNotedRight, holds_at}
 use Rattle.eris_agreement.proofs.ReplicaLeaves.{epoch_equal}
 use Rattle.eris_order_law.proofs.Closings.{closes_at, Closes, SameClosed}
 use Rattle.eris_order_law.proofs.LaterStamps.{below-In}
-use Rattle.eris_order_law.proofs.OrderMembers.{has_number, names-has, stamping_right}
+use Rattle.eris_order_law.proofs.OrderMembers.{has_number, stamping_right}
 use Rattle.eris_order_law.proofs.ShardLists.{Before, Ascends, number_on, number_on-is, before-trans}
 use Rattle.eris_order_law.proofs.SpokenClosed.{closed_stamped}
 

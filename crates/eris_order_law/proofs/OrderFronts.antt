@@ -1,13 +1,12 @@
 -- How the order begins on a shard: the log of what is closed below an epoch, and then the survivors of the epoch up to
 -- a number. Whatever list has just these packets, ascending, is its front; the order itself is never taken apart.
-use Rattle.std.proofs.Common.{◌≡◌, ◌⊎◌, inl, inr, ℕ, zero, suc, ◌+◌, ◌≤◌, ◌<◌, List, [], ◌∷◌, ◌++◌, Bool, true, false, cond, not, ◌&&◌, ◌||◌, ◌==◌, nat_lt, Option, Some, None, refl, sym, ap, ◌∙◌, subst, arith}
+use Rattle.std.proofs.Common.{◌≡◌, ◌⊎◌, inl, inr, ℕ, ◌≤◌, ◌<◌, List, ◌++◌, Bool, true, false, not, ◌&&◌, ◌==◌, nat_lt, refl, sym, ap, ◌∙◌, subst, arith}
 use Rattle.std.proofs.lemmas.Bool.{and_parts, or_cases, or_left, or_right, eqb-true, ltb-true}
 use Rattle.std.proofs.lemmas.Bool.Decides.{nat_tests}
 use Rattle.eris_base.specs.declared.ids.Epoch.{Epoch}
 use Rattle.eris_base.specs.declared.ids.ShardId.{ShardId}
 use Rattle.eris_base.specs.ConfigLimits.{ConfigValue}
 use Rattle.eris_txn.specs.declared.packet.Packet.{Packet}
-use Rattle.eris_locks.specs.Shards.{names_shard}
 use Rattle.eris_log.specs.Places.{any_among}
 use Rattle.eris_epoch.specs.Closing.{shard_log}
 use Rattle.eris_epoch.specs.SamePackets.{is_listed}
@@ -27,7 +26,7 @@ use Rattle.eris_agreement.proofs.ClosedLaws.{listed-In, In-listed}
 use Rattle.eris_agreement.proofs.ReplicaLeaves.{epoch_equal}
 use Rattle.eris_order_law.proofs.Closings.{alone, is_alone}
 use Rattle.eris_order_law.proofs.ClosedLogs.{log-In, In-log, prior_ascends}
-use Rattle.eris_order_law.proofs.LaterStamps.{filtered-In, below-In, In-below}
+use Rattle.eris_order_law.proofs.LaterStamps.{below-In, In-below}
 use Rattle.eris_epoch_law.proofs.Members.{In-filtered}
 use Rattle.eris_order_law.proofs.OrderMembers.{has_number, names-has, order_ascends, order_on-In, In-order_on, IsOnOrder}
 use Rattle.eris_order_law.proofs.ShardLists.{Before, Ascends, Ascends-append, Cut, cut, number_on, number_on-is}

@@ -1,6 +1,6 @@
 -- The order on a shard by membership: its packets are those that survive, each stamped in its epoch and with a number
 -- on the shard; and they strictly ascend by epoch and number, since numbers rise along each epoch's list.
-use Rattle.std.proofs.Common.{◌≡◌, ◌⊎◌, inl, inr, ℕ, zero, suc, ◌+◌, ◌≤◌, ◌<◌, List, [], ◌∷◌, ◌++◌, Bool, true, false, cond, Option, Some, None, is_some, refl, sym, ap, ◌∙◌, subst, arith}
+use Rattle.std.proofs.Common.{◌≡◌, inl, inr, ℕ, suc, ◌+◌, ◌≤◌, ◌<◌, List, [], ◌∷◌, ◌++◌, Bool, true, false, cond, Option, Some, None, is_some, refl, sym, ap, ◌∙◌, subst, arith}
 use Rattle.std.specs.Prelude.{slice_get}
 use Rattle.std.specs.List.{filter, flat_map}
 use Rattle.eris_base.specs.declared.ids.Epoch.{Epoch}
@@ -28,7 +28,7 @@ use Rattle.eris_agreement.proofs.Reduction.{own_events}
 use Rattle.eris_agreement.proofs.ReplicaLeaves.{epoch_equal}
 use Rattle.eris_order_law.proofs.Closings.{is_alone}
 use Rattle.eris_order_law.proofs.LaterStamps.{filtered-In}
-use Rattle.eris_order_law.proofs.ShardLists.{Before, Ascends, number_on, number_on-is}
+use Rattle.eris_order_law.proofs.ShardLists.{Before, Ascends, number_on-is}
 
 pub flat_map-In : {X Y : Type 0} (f : X → List Y) (xs : List X) (x : X) (y : Y) → In x xs → In y (f x) → In y (flat_map f xs)
 flat_map-In f [] x y i j = absurd i

@@ -1,7 +1,7 @@
 -- A replica's settled log at any moment is how the order begins on its shard, then and at every later moment: what is
 -- closed below its epoch never changes; up to its settled number its entries are dropped exactly where the coordinator
 -- drops them, by then or ever; and what it kept there was spoken past by a quorum, so that it is closed with its epoch.
-use Rattle.std.proofs.Common.{◌≡◌, ◌⊎◌, inl, inr, ℕ, zero, suc, ◌+◌, ◌≤◌, ◌<◌, List, [], ◌∷◌, ◌++◌, Bool, true, false, cond, not, ◌&&◌, ◌==◌, Option, Some, None, refl, sym, ap, ◌∙◌, subst, arith}
+use Rattle.std.proofs.Common.{◌≡◌, inl, inr, ℕ, zero, suc, ◌+◌, ◌≤◌, ◌<◌, List, ◌++◌, Bool, true, false, cond, not, ◌==◌, Option, Some, None, refl, sym, ap, ◌∙◌, subst, arith}
 use Rattle.std.specs.Prelude.{slice_get}
 use Rattle.std.proofs.lemmas.Bool.{cases_lt, cases_eq, and_from}
 use Rattle.std.proofs.lemmas.Bool.Decides.{nat_tests}
@@ -9,7 +9,6 @@ use Rattle.eris_base.specs.declared.ids.Epoch.{Epoch}
 use Rattle.eris_base.specs.declared.ids.ReplicaId.{ReplicaId}
 use Rattle.eris_base.specs.declared.ids.ShardId.{ShardId}
 use Rattle.eris_base.specs.ConfigLimits.{ConfigValue}
-use Rattle.eris_base.specs.Places.{number_in}
 use Rattle.eris_txn.specs.declared.packet.Packet.{Packet}
 use Rattle.eris_log.specs.declared.entry.Entry.TheVariants.{Dropped, Txn, Gap}
 use Rattle.eris_log.specs.Entries.{entry_of, is_dropped, is_txn, is_held_and}
@@ -49,7 +48,7 @@ use Rattle.eris_agreement.proofs.Reduction.{own_events}
 use Rattle.eris_agreement.proofs.ReplicaLeaves.{epoch_equal}
 use Rattle.eris_order_law.proofs.Closings.{alone, then, is_alone, own_shard}
 use Rattle.eris_order_law.proofs.OrderFronts.{IsUpto, IsEntry, epoch_now, survive_clear, closed_survives, held_survives, front_cut}
-use Rattle.eris_order_law.proofs.ShardLists.{Before, Ascends, Ascends-append, Cut, number_on, number_on-is}
+use Rattle.eris_order_law.proofs.ShardLists.{Before, Ascends, Ascends-append, Cut, number_on-is}
 use Rattle.eris_order_law.proofs.SpokenClosed.{spoken_closed}
 
 -- ---- the kept packets of a part

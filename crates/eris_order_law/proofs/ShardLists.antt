@@ -1,6 +1,6 @@
 -- Lists in the order of a shard: strictly ascending by epoch, then by number. One such list begins with another where
 -- it has its packets and no earlier ones. So no list of an order is ever taken apart: all is membership.
-use Rattle.std.proofs.Common.{◌≡◌, ◌⊎◌, inl, inr, ℕ, ◌≤◌, ◌<◌, List, [], ◌∷◌, ◌++◌, Some, refl, sym, ap, ◌∙◌, subst, arith, unwrap_or}
+use Rattle.std.proofs.Common.{◌≡◌, ◌⊎◌, inl, inr, ℕ, ◌<◌, List, [], ◌∷◌, ◌++◌, refl, sym, ap, ◌∙◌, subst, arith, unwrap_or}
 use Rattle.eris_base.specs.declared.ids.ShardId.{ShardId}
 use Rattle.eris_base.specs.Each.{Each}
 use Rattle.eris_base.specs.Places.{number_in}

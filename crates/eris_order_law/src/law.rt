@@ -1,17 +1,19 @@
 ghost use Rattle.std.specs.Prelude.{◌≡◌, ◌≤◌, ◌<◌, ℕ, List, IsFalse};
 ghost use Rattle.eris_base.specs.declared.ids.Epoch.{Epoch};
+ghost use Rattle.eris_base.specs.declared.ids.ReplicaId.{ReplicaId};
 ghost use Rattle.eris_base.specs.declared.ids.ShardId.{ShardId};
 ghost use Rattle.eris_base.specs.declared.ids.View.{View};
 ghost use Rattle.eris_base.specs.ConfigLimits.{ConfigValue};
 ghost use Rattle.eris_txn.specs.declared.packet.Packet.{Packet};
 ghost use Rattle.eris_log.specs.Places.{any_among};
 ghost use Rattle.eris_script.specs.declared.event.Event.{Event};
-ghost use Rattle.eris_rules.specs.WorldOrders.{order};
+ghost use Rattle.eris_rules.specs.Good.{BeginsWith, AreSettledRight, settled_log};
+ghost use Rattle.eris_rules.specs.WorldOrders.{order, order_on};
 ghost use Rattle.eris_epoch_law.specs.EpochWorlds.{EpochEvent, moment};
 ghost use Rattle.eris_epoch_law.specs.Members.{In};
 ghost use Rattle.eris_epoch_law.specs.Stamped.{HasNumber};
 ghost use Rattle.eris_key_law.specs.Quorums.{SpokePast};
-ghost use Rattle.eris_agreement.specs.Alone.{stamping_of};
+ghost use Rattle.eris_agreement.specs.Alone.{state_of, stamping_of};
 ghost use Rattle.eris_agreement.specs.EpochRuns.{servers_at, system_of, IsEpochRun};
 ghost use Rattle.eris_agreement.specs.WorldMoments.{world_at};
 
@@ -31,4 +33,11 @@ pub fn closing_keeps_what_was_spoken()
 pub fn left_epochs_are_done()
     ensures closed { (config : ConfigValue) (events : List Event) (j k : ℕ) → j ≤ k → (packet : Packet) → packet.stamp.epoch.0 < (servers_at config events j).coordinator.current.0 → In packet (servers_at config events k).coordinator.closed → In packet (servers_at config events j).coordinator.closed }
     ensures later { (config : ConfigValue) (events : List Event) (j k : ℕ) → j ≤ k → (packet : Packet) → In packet (order (world_at config events k)) → (In packet (stamping_of config (servers_at config events j).stampings packet.stamp.epoch).stamped → ⊥) → (servers_at config events j).coordinator.current.0 ≤ packet.stamp.epoch.0 }
+{}
+
+/// THE PREFIX CLAUSE: what a replica has settled at a moment, be it crashed since or not, is how the order begins on its
+/// shard at every later moment; so every world's settled logs are right. The call does nothing; its contract is the law.
+pub fn settled_logs_begin_the_order()
+    ensures settled { (config : ConfigValue) (events : List Event) (k : ℕ) → AreSettledRight (world_at config events k) }
+    ensures later { (config : ConfigValue) (events : List Event) (j k : ℕ) → j ≤ k → (shard : ShardId) (replica : ReplicaId) → BeginsWith (order_on shard (world_at config events k)) (settled_log (state_of (servers_at config events j).replicas shard replica)) }
 {}

@@ -3,4 +3,4 @@
 
 mod law;
 
-pub use law::{closing_keeps_what_was_spoken, left_epochs_are_done};
+pub use law::{closing_keeps_what_was_spoken, left_epochs_are_done, settled_logs_begin_the_order};
