@@ -7,3 +7,4 @@ pub mod OrderMembers
 pub mod ClosedLogs
 pub mod OrderFronts
 pub mod SettledFronts
+pub mod SpokenFronts
