@@ -8,3 +8,4 @@ pub mod ClosedLogs
 pub mod OrderFronts
 pub mod SettledFronts
 pub mod SpokenFronts
+pub mod LearnerFronts

@@ -1,53 +1,41 @@
 -- The log behind an answer that a quorum spoke past is how the order begins on its shard, at that moment and at every
 -- later one: what the learner left out is just what is dropped, and what it kept is held or closed.
-use Rattle.std.proofs.Common.{◌≡◌, inl, inr, ℕ, zero, suc, ◌+◌, ◌≤◌, ◌<◌, List, ◌++◌, Bool, true, false, cond, not, ◌==◌, Option, Some, None, refl, sym, ap, ◌∙◌, subst, arith}
-use Rattle.std.specs.Prelude.{slice_get}
-use Rattle.std.proofs.lemmas.Bool.{cases_lt, cases_eq, and_from}
-use Rattle.std.proofs.lemmas.Bool.Decides.{nat_tests}
+use Rattle.std.proofs.Common.{◌≡◌, inl, inr, ℕ, ◌≤◌, ◌<◌, List, ◌++◌, true, false, Some, sym, ap, ◌∙◌, subst, arith}
+use Rattle.std.proofs.lemmas.Bool.{cases_lt}
 use Rattle.eris_base.specs.declared.ids.Epoch.{Epoch}
 use Rattle.eris_base.specs.declared.ids.ReplicaId.{ReplicaId}
 use Rattle.eris_base.specs.declared.ids.ShardId.{ShardId}
 use Rattle.eris_base.specs.ConfigLimits.{ConfigValue}
 use Rattle.eris_txn.specs.declared.packet.Packet.{Packet}
-use Rattle.eris_log.specs.declared.entry.Entry.TheVariants.{Dropped, Txn, Gap}
-use Rattle.eris_log.specs.Entries.{entry_of, is_dropped, is_txn, is_held_and}
+use Rattle.eris_log.specs.Entries.{is_dropped}
 use Rattle.eris_log.specs.Held.{packet_at}
-use Rattle.eris_log.specs.Parts.{empty_part}
-use Rattle.eris_log.specs.PartValues.{PartValue}
 use Rattle.eris_log.specs.Places.{any_among}
 use Rattle.eris_epoch.specs.Closing.{shard_log}
-use Rattle.eris_epoch.specs.SamePackets.{same_packet}
-use Rattle.eris_epoch.proofs.SameLaws.{same_packet-refl}
 use Rattle.eris_script.specs.declared.event.Event.{Event}
 use Rattle.eris_sequencer.specs.declared.stamping.Stamping.{Stamping}
-use Rattle.eris_rules.specs.Good.{is_kept, kept_at, kept_upto, settled_log, BeginsWith, AreSettledRight}
-use Rattle.eris_rules.specs.ReplicaAnswers.{open_packet}
-use Rattle.eris_rules.specs.ReplicaStates.{ReplicaState, EpochReplica, first_state, begun, fresh}
-use Rattle.eris_rules.specs.WorldOrders.{survives, order_on, is_held_at, has_packet, is_held_by, is_held_in}
-use Rattle.eris_rules.specs.Worlds.{in_row, replica_at}
+use Rattle.eris_rules.specs.Good.{kept_upto}
+use Rattle.eris_rules.specs.ReplicaStates.{ReplicaState, EpochReplica}
+use Rattle.eris_rules.specs.WorldOrders.{survives, order_on, is_held_in}
 use Rattle.eris_epoch_law.specs.EpochWorlds.{EpochSystem, EpochWorld, EpochEvent}
 use Rattle.eris_epoch_law.specs.Fine.{known_in, IsFineHeld}
 use Rattle.eris_epoch_law.specs.Members.{In}
 use Rattle.eris_epoch_law.specs.Stamped.{HasNumber}
 use Rattle.eris_epoch_law.proofs.FineParts.{held_fine}
 use Rattle.eris_epoch_law.proofs.FineWorlds.{all_fine}
-use Rattle.eris_epoch_law.proofs.Members.{In-append, In-left, In-right, In-get, any_from}
 use Rattle.eris_epoch_law.proofs.Moments.{later}
 use Rattle.eris_epoch_law.proofs.StampList.{stamps}
-use Rattle.eris_key_law.proofs.Settles.{settled_by, settled_same, settled_held, past_more}
-use Rattle.eris_agreement.specs.Alone.{or_first, state_of, stamping_of}
+use Rattle.eris_agreement.specs.Alone.{state_of, stamping_of}
 use Rattle.eris_agreement.specs.ClosedBelow.{closed_below}
 use Rattle.eris_agreement.specs.EpochRuns.{servers_at, system_of}
 use Rattle.eris_agreement.specs.Servers.{Servers}
 use Rattle.eris_agreement.specs.WorldMoments.{world_at}
-use Rattle.eris_agreement.proofs.Cells.{state_of-some}
 use Rattle.eris_agreement.proofs.EpochInvariants.{holds_at}
 use Rattle.eris_agreement.proofs.Growth.{closed_kept, current_rises, epoch_rises}
 use Rattle.eris_agreement.proofs.Reduction.{own_events}
 use Rattle.eris_agreement.proofs.ReplicaLeaves.{epoch_equal}
 use Rattle.eris_order_law.proofs.Closings.{alone, then, is_alone, own_shard}
 use Rattle.eris_order_law.proofs.OrderFronts.{IsUpto, IsEntry, epoch_now, survive_clear, closed_survives, held_survives, front_cut}
-use Rattle.eris_order_law.proofs.ShardLists.{Before, Ascends, Ascends-append, Cut, number_on-is}
+use Rattle.eris_order_law.proofs.ShardLists.{Ascends, Cut}
 use Rattle.eris_order_law.proofs.SpokenClosed.{spoken_closed}
 use Rattle.eris_base.specs.declared.ids.View.{View}
 use Rattle.eris_key_law.specs.Quorums.{SpokePast}
