@@ -9,3 +9,4 @@ pub mod OrderFronts
 pub mod SettledFronts
 pub mod SpokenFronts
 pub mod LearnerFronts
+pub mod LaterAfter
