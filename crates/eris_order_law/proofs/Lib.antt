@@ -7,3 +7,6 @@ pub mod OrderMembers
 pub mod ClosedLogs
 pub mod OrderFronts
 pub mod SettledFronts
+pub mod SpokenFronts
+pub mod LearnerFronts
+pub mod LaterAfter
