@@ -82,6 +82,7 @@ module _ (shard : ShardId) where
       after : Before shard y x → (z : Packet) → (z ≡ x) ⊎ In z made → Before shard y z
       after h z (inl e) = subst (λ w. Before shard y w) (sym e) h
       after h z (inr i) = Each-at (Before shard y) made z f.0 i
+
       by_turn : Apart x y → Ascends shard (put made x) → Ascends shard (cond (is_lt (turn_cmp (turn_on shard x) (turn_on shard y))) (x ∷ y ∷ made) (y ∷ put made x))
       by_turn (inl h) rest = subst (λ b. Ascends shard (cond b (x ∷ y ∷ made) (y ∷ put made x))) (sym (before_less x y h))
           ((h, Each-by_In (Before shard x) made (λ z i. before-trans shard x y z h (Each-at (Before shard y) made z f.0 i))), f)
@@ -116,6 +117,7 @@ module _ (shard : ShardId) where
       differs y (z ∷ ys) all (inl e) same = let no = all.0 in let is : same_packet x z ≡ true = ap (same_packet x) (sym e ∙ sym same) ∙ same_packet-refl x in absurd (cc)
       differs y (z ∷ ys) all (inr i) same = differs y ys all.1 i same
       differs y [] all i same = i
+
       by_test : (b : Bool) → test x ≡ b → AllApart (filter test xs) → AllApart (cond b (x ∷ filter test xs) (filter test xs))
       by_test true e rest = (Each-by_In (Apart x) (filter test xs) (λ y i. let r = In-filtered test xs y i in h x y (inl refl) (inr r.0) e r.1 (λ same. differs y xs distinct.0 r.0 same)), rest)
       by_test false e rest = rest
@@ -158,6 +160,7 @@ distinct-filter test (x ∷ xs) f = by_test (test x) (distinct-filter test xs f.
     at P (z ∷ ys) y all (inl e) = subst P (sym e) all.0
     at P (z ∷ ys) y all (inr i) = at P ys y all.1 i
     at P [] y all i = absurd i
+
     by_test : (b : Bool) → IsDistinct same_packet (filter test xs) → IsDistinct same_packet (cond b (x ∷ filter test xs) (filter test xs))
     by_test true rest = (all-by_In _ (filter test xs) (λ y i. at _ xs y f.0 (In-filtered test xs y i).0), rest)
     by_test false rest = rest
@@ -186,9 +189,9 @@ module _ (config : ConfigValue) (events : List Event) where
       subst (λ list. IsDistinct same_packet list) (sym closing.list)
       (distinct-append (at k).coordinator.closed (left_behind config state) once (left_once state)
       (λ x y i j.
-        let low = Each-at (λ (p : Packet). p.stamp.epoch.0 < (at k).coordinator.current.0) (at k).coordinator.closed x (holds_at config events k).below i in
-        let here = Each-at (λ (p : Packet). p.stamp.epoch ≡ (at k).coordinator.current) (left_behind config state) y own j in
-        other_epochs x y (same_packet x y) refl (subst (λ (e : Epoch). x.stamp.epoch.0 < e.0) (sym here) low)))
+      let low = Each-at (λ (p : Packet). p.stamp.epoch.0 < (at k).coordinator.current.0) (at k).coordinator.closed x (holds_at config events k).below i in
+      let here = Each-at (λ (p : Packet). p.stamp.epoch ≡ (at k).coordinator.current) (left_behind config state) y own j in
+      other_epochs x y (same_packet x y) refl (subst (λ (e : Epoch). x.stamp.epoch.0 < e.0) (sym here) low)))
 
   -- NO PACKET IS CLOSED TWICE
   pub closed_once : (k : ℕ) → IsDistinct same_packet (at k).coordinator.closed

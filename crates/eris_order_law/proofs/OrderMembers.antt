@@ -72,13 +72,14 @@ ranked-ascends shard [] f = tt
 ranked-ascends shard (x ∷ xs) f = by_test (names_shard shard x) refl (ranked-ascends shard xs f.1)
   where
     by_test : (b : Bool) → names_shard shard x ≡ b → Ascends shard (filter (names_shard shard) xs) → Ascends shard (cond b (x ∷ filter (names_shard shard) xs) (filter (names_shard shard) xs))
-    by_test true e h =
-        (Each-by_In (Before shard x) (filter (names_shard shard) xs) (λ z i.
-            let r = In-filtered (names_shard shard) xs z i in
-            let a = has_number shard x e in
-            let b = has_number shard z r.1 in
-            Each-at (Ranks shard x) xs z f.0 r.0 a.0 b.0 a.1 b.1),
-        h)
+    by_test true e h = (
+      Each-by_In (Before shard x) (filter (names_shard shard) xs) (λ z i.
+          let r = In-filtered (names_shard shard) xs z i in
+          let a = has_number shard x e in
+          let b = has_number shard z r.1 in
+          Each-at (Ranks shard x) xs z f.0 r.0 a.0 b.0 a.1 b.1),
+      h,
+    )
     by_test false e h = h
 
 -- the list of the sequencer that stands at an epoch's index
@@ -89,13 +90,14 @@ pub record IsRightAt (shard : ShardId) (epoch : ℕ) (stamping : Stamping) : Typ
 module _ (shard : ShardId) where
   epoch_ranked : (epoch : ℕ) (packets : List Packet) → ((packet : Packet) → In packet packets → packet.stamp.epoch.0 ≡ epoch) → Rise shard packets → Ranked shard packets
   epoch_ranked epoch [] f g = tt
-  epoch_ranked epoch (x ∷ xs) f g =
-      (Each-by_In (Ranks shard x) xs (λ y i m n p q.
-          let lower : m < n = Each-at (IsBelow shard x) xs y g.0 i m n p q in
-          let a = number_on-is shard m x p in
-          let b = number_on-is shard n y q in
-          inr (f x (inl refl) ∙ sym (f y (inr i)), omega (arith, lower, a, b))),
-      epoch_ranked epoch xs (λ y i. f y (inr i)) g.1)
+  epoch_ranked epoch (x ∷ xs) f g = (
+    Each-by_In (Ranks shard x) xs (λ y i m n p q.
+        let lower : m < n = Each-at (IsBelow shard x) xs y g.0 i m n p q in
+        let a = number_on-is shard m x p in
+        let b = number_on-is shard n y q in
+        inr (f x (inl refl) ∙ sym (f y (inr i)), omega (arith, lower, a, b))),
+    epoch_ranked epoch xs (λ y i. f y (inr i)) g.1,
+  )
 
   shifted : (a d : ℕ) (stamping : Stamping) → IsRightAt shard (a + suc d) stamping → IsRightAt shard (suc a + d) stamping
   shifted a d stamping right = let e : a + suc d ≡ suc a + d = omega arith in subst (λ n. IsRightAt shard n stamping) e right

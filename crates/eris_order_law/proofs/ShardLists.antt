@@ -66,12 +66,14 @@ cut shard IsEarly (x ∷ xs) (y ∷ ys) f g into back down =
     head (inr i, d) =
         let b : Before shard y x = Each-at (Before shard y) ys x g.0 i in
         elim (back y (inl refl) (down x y d b)) [ inl q ↦ q | inr j ↦ absurd (before-not shard x y (Each-at (Before shard x) xs y f.0 j) b) ]
+
     into_tail : y ≡ x → (z : Packet) → In z xs → In z (y ∷ ys) → In z ys
     into_tail e z i (inr j) = j
     into_tail e z i (inl q) =
         let b : Before shard x z = Each-at (Before shard x) xs z f.0 i in
         let c : Before shard x x = subst (λ w. Before shard x w) (q ∙ e) b in
         absurd (before-not shard x x c c)
+
     back_tail : y ≡ x → (z : Packet) → In z ys → In z (x ∷ xs) → In z xs
     back_tail e z i (inr j) = j
     back_tail e z i (inl q) =
