@@ -13,3 +13,4 @@ pub mod FollowSteps
 pub mod Growth
 pub mod Reduction
 pub mod Locality
+pub mod NodeLocality

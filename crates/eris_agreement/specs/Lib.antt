@@ -4,3 +4,5 @@ pub mod ClosedBelow
 pub mod Alone
 pub mod EpochRuns
 pub mod OwnSteps
+pub mod NodeSteps
+pub mod Continuing

@@ -3,4 +3,7 @@
 
 mod law;
 
-pub use law::{each_epoch_is_a_run, epochs_never_fall, replicas_are_local, runs_have_moments};
+pub use law::{
+    each_epoch_is_a_run, epochs_never_fall, lists_only_grow, nodes_are_local, replicas_are_local,
+    runs_have_moments, stamps_are_numbered,
+};
