@@ -232,6 +232,15 @@ module _ (config : ConfigValue) (events : List Event) (j : ℕ) (shard : ShardId
     begins : (k : ℕ) → j ≤ k → BeginsWith (order_on shard (world_at config events k)) log
     begins k le = let front = replied_cut k le in record { rest = front.rest; joined = front.joined }
 
+    -- the log ends with the packet of that stamp
+    pub front_ends : (front : List Packet) × (packet : Packet) × (packet.stamp ≡ answered.stamp) × ((k : ℕ) → j ≤ k → BeginsWith (order_on shard (world_at config events k)) (front ++ packet ∷ []))
+    front_ends = (
+      log_upto state.prior state.inner.part (n - 1),
+      packet,
+      told.replied.spoke.of_stamp,
+      λ k le. subst (BeginsWith (order_on shard (world_at config events k))) log_is (begins k le),
+    )
+
     -- ANSWERED BY A QUORUM
     pub replies_front : IsSaidFrom config events j shard id phase answer
     replies_front = record { log = log; said = said; begins = begins }

@@ -1,4 +1,4 @@
-ghost use Rattle.std.specs.Prelude.{◌≡◌, ◌≤◌, ℕ, List};
+ghost use Rattle.std.specs.Prelude.{◌≡◌, ◌≤◌, ℕ, List, [], ◌∷◌, ◌++◌};
 ghost use Rattle.eris_base.specs.declared.ids.Epoch.{Epoch};
 ghost use Rattle.eris_base.specs.declared.ids.Phase.{Phase};
 ghost use Rattle.eris_base.specs.declared.ids.ReplicaId.{ReplicaId};
@@ -12,7 +12,8 @@ ghost use Rattle.eris_locks.specs.States.{phase_of};
 ghost use Rattle.eris_msg.specs.declared.message.Message.{Message};
 ghost use Rattle.eris_script.specs.declared.event.Event.{Event};
 ghost use Rattle.eris_rules.specs.ClientStates.{ClientIdentity};
-ghost use Rattle.eris_rules.specs.WorldOrders.{order};
+ghost use Rattle.eris_rules.specs.Good.{BeginsWith};
+ghost use Rattle.eris_rules.specs.WorldOrders.{order, order_on};
 ghost use Rattle.eris_serial.specs.Evidence.{SaidOn, StandsBehind};
 ghost use Rattle.eris_epoch_law.specs.Members.{In};
 ghost use Rattle.eris_agreement.specs.Alone.{stamping_of};
@@ -26,9 +27,11 @@ ghost use Rattle.eris_evidence_law.specs.Heard.{AllWasSent, WasAnswered, WasSent
 
 /// From the messages of a run to its order: where a shard was answered by a quorum, or by a Late, among the messages
 /// that were sent by a moment, then the shard's store says that answer over a log with which the order begins on the
-/// shard, then and at every later moment. The call does nothing; its contract is the law.
+/// shard, then and at every later moment. The log behind what a quorum answered ends with the packet of that stamp. The
+/// call does nothing; its contract is the law.
 pub fn answers_begin_the_order()
     ensures replied { (config : ConfigValue) (events : List Event) (j : ℕ) (shard : ShardId) (id : TxnId) (phase : Phase) (answer : Answer) → WasAnswered config (servers_at config events j).sent shard id phase answer → IsSaidFrom config events j shard id phase answer }
+    ensures ends { (config : ConfigValue) (events : List Event) (j : ℕ) (shard : ShardId) (id : TxnId) (phase : Phase) (answer : Answer) → (answered : WasAnswered config (servers_at config events j).sent shard id phase answer) → (front : List Packet) × (packet : Packet) × (packet.stamp ≡ answered.stamp) × ((k : ℕ) → j ≤ k → BeginsWith (order_on shard (world_at config events k)) (front ++ packet ∷ [])) }
     ensures late { (config : ConfigValue) (events : List Event) (j : ℕ) (shard : ShardId) (replica : ReplicaId) (id : TxnId) (phase : Phase) (answer : Answer) → WasSent (servers_at config events j).sent (Message.Late shard replica id phase answer) → IsSaidFrom config events j shard id phase answer }
     ensures over_the_order { (config : ConfigValue) (events : List Event) (j k : ℕ) → j ≤ k → (shard : ShardId) (id : TxnId) (phase : Phase) (answer : Answer) → IsSaidFrom config events j shard id phase answer → SaidOn shard id phase answer (order (world_at config events k)) }
 {}

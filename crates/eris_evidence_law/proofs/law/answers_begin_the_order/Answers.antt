@@ -1,5 +1,5 @@
 use Rattle.eris_evidence_law.proofs.CountedFronts.{over_the_order}
-use Rattle.eris_evidence_law.proofs.SaidFronts.{late_front, replies_front}
+use Rattle.eris_evidence_law.proofs.SaidFronts.{front_ends, late_front, replies_front}
 use Rattle.eris_evidence_law.proofs.law.answers_begin_the_order.Goals as goal
 
 pub returns-clause-replied : goal.returns-clause-replied
@@ -10,3 +10,6 @@ returns-clause-late c = λ config events j shard replica id phase answer sent. l
 
 pub returns-clause-over_the_order : goal.returns-clause-over_the_order
 returns-clause-over_the_order c = over_the_order
+
+pub returns-clause-ends : goal.returns-clause-ends
+returns-clause-ends c = front_ends
