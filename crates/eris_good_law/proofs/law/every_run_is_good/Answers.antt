@@ -1,0 +1,11 @@
+use Rattle.eris_good_law.proofs.Goodness.{good_at, good_front, good_run}
+use Rattle.eris_good_law.proofs.law.every_run_is_good.Goals as goal
+
+pub returns-clause-good : goal.returns-clause-good
+returns-clause-good c = good_run
+
+pub returns-clause-front : goal.returns-clause-front
+returns-clause-front c = good_front
+
+pub returns-clause-moment : goal.returns-clause-moment
+returns-clause-moment c = good_at
