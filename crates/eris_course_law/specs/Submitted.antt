@@ -1,16 +1,12 @@
--- WHAT A WORLD HAS FROM ITS CLIENTS: a stamped packet comes from an Ask that a client of the world sent, whose body rests
--- on the course of that client as it was then; and an event of the history stands in a client's own.
+-- WHAT A WORLD HAS FROM ITS CLIENTS: an Ask was sent by a client of the world, and its body rests on the course of that
+-- client as it was then; an event of the history stands in a client's own; and a message that came was sent.
 use Rattle.std.specs.Prelude.{◌≡◌, ℕ, ◌≤◌, List}
 use Rattle.eris_base.specs.declared.ids.ClientId.{ClientId}
 use Rattle.eris_base.specs.declared.ids.Node.{Node}
-use Rattle.eris_base.specs.declared.ids.ShardId.{ShardId}
 use Rattle.eris_base.specs.declared.ids.TxnId.{TxnId}
 use Rattle.eris_base.specs.ConfigLimits.{ConfigValue}
 use Rattle.eris_txn.specs.declared.body.Body.{Body}
 use Rattle.eris_txn.specs.declared.history.HistoryEvent.{HistoryEvent}
-use Rattle.eris_txn.specs.declared.packet.Packet.{Packet}
-use Rattle.eris_txn.specs.Bodies.{has_shard, participants_of}
-use Rattle.eris_locks.specs.Shards.{names_shard}
 use Rattle.eris_msg.specs.declared.message.Message.{Message}
 use Rattle.eris_msg.specs.declared.outgoing.Outgoing.{Outgoing}
 use Rattle.eris_script.specs.declared.event.Event.{Event}
@@ -27,12 +23,6 @@ pub record HasAsked (config : ConfigValue) (events : List Event) (k : ℕ) (aske
   pub at : ℕ
   pub before : at ≤ k
   pub rests : AskRests (identity config asker) (inputs_of config events asker) at id body
-
--- the packet was stamped for such an Ask, and its stamp names the shards of its body
-pub record WasAsked (config : ConfigValue) (events : List Event) (k : ℕ) (packet : Packet) : Type 0 where
-  pub asker : ClientId
-  pub asked : HasAsked config events k asker packet.id packet.body
-  pub names : (shard : ShardId) → names_shard shard packet ≡ has_shard (participants_of packet.body) shard
 
 -- the event is one of a client of the world, in its own course
 pub record IsOfClient (config : ConfigValue) (events : List Event) (k : ℕ) (event : HistoryEvent) : Type 0 where

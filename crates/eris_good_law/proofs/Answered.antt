@@ -39,7 +39,7 @@ use Rattle.eris_course_law.specs.Submitted.{IsOfClient}
 use Rattle.eris_course_law.proofs.Calls.{aborts_others}
 use Rattle.eris_course_law.proofs.Courses.{event_from, event_to}
 use Rattle.eris_course_law.proofs.Merged.{each_added, is_new, submits_well}
-use Rattle.eris_course_law.proofs.Packets.{packet_submitted, was_asked}
+use Rattle.eris_origin_law.proofs.Packets.{packet_submitted, was_asked}
 use Rattle.eris_evidence_law.specs.Fronts.{IsSaidFrom, IsUnstamped}
 use Rattle.eris_evidence_law.proofs.OldPackets.{behind}
 use Rattle.eris_order_law.proofs.OrderMembers.{In-list}

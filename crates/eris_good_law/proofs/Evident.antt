@@ -15,9 +15,9 @@ use Rattle.eris_epoch_law.specs.Members.{In}
 use Rattle.eris_epoch_law.proofs.Members.{Each-by_In, In-filter}
 use Rattle.eris_agreement.specs.WorldMoments.{world_at}
 use Rattle.eris_course_law.specs.Accepted.{AreEventsFit, IsAccepted}
-use Rattle.eris_course_law.specs.Submitted.{WasAsked}
+use Rattle.eris_origin_law.specs.Asked.{WasAsked}
 use Rattle.eris_course_law.proofs.Merged.{submits_well}
-use Rattle.eris_course_law.proofs.Packets.{packet_body, packet_commit, packet_shards, packet_submitted, was_asked}
+use Rattle.eris_origin_law.proofs.Packets.{packet_body, packet_commit, packet_shards, packet_submitted, was_asked}
 use Rattle.eris_good_law.specs.Evident.{HasEvidence}
 use Rattle.eris_good_law.proofs.Answered.{all_later}
 use Rattle.eris_good_law.proofs.Counted.{events_counted}

@@ -1,5 +1,5 @@
 use Rattle.eris_course_law.proofs.Calls.{aborts_others, accepted}
-use Rattle.eris_course_law.proofs.Courses.{own_course}
+use Rattle.eris_course_law.proofs.Courses.{asked_by, own_course}
 use Rattle.eris_course_law.proofs.Delivered.{delivered}
 use Rattle.eris_course_law.proofs.law.runs_are_courses.Goals as goal
 
@@ -14,3 +14,6 @@ returns-clause-fair c = aborts_others
 
 pub returns-clause-came : goal.returns-clause-came
 returns-clause-came c = delivered
+
+pub returns-clause-asked : goal.returns-clause-asked
+returns-clause-asked c = asked_by

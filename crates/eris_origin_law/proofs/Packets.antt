@@ -39,10 +39,11 @@ use Rattle.eris_client_law.proofs.Growing.{event_stays, submit_stays}
 use Rattle.eris_client_law.proofs.Origins.{ask_submitted, body_origin, commit_origin}
 use Rattle.eris_course_law.specs.Accepted.{IsAccepted, IsThere}
 use Rattle.eris_course_law.specs.Inputs.{identity, inputs_of}
-use Rattle.eris_course_law.specs.Submitted.{HasAsked, WasAsked}
+use Rattle.eris_course_law.specs.Submitted.{HasAsked}
+use Rattle.eris_origin_law.specs.Asked.{WasAsked}
 use Rattle.eris_course_law.proofs.Courses.{asked_by, event_to, submits_agree}
 use Rattle.eris_course_law.proofs.Merged.{aborted_plan}
-use Rattle.eris_course_law.proofs.NewStamps.{Adds, IsStampedNow, adds, next-names}
+use Rattle.eris_origin_law.proofs.NewStamps.{Adds, IsStampedNow, adds, next-names}
 
 -- an Ask is of an own id, or it is the Abort that the client was called for
 own_or_called : (me : ClientIdentity) (inputs : List ClientInput) (number : ℕ) (id : TxnId) (body : Body) → AskRests me inputs number id body

@@ -1,5 +1,5 @@
-use Rattle.eris_course_law.proofs.Packets.{packet_body, packet_commit, packet_shards, packet_submitted, was_asked}
-use Rattle.eris_course_law.proofs.law.packets_were_asked.Goals as goal
+use Rattle.eris_origin_law.proofs.Packets.{packet_body, packet_commit, packet_shards, packet_submitted, was_asked}
+use Rattle.eris_origin_law.proofs.law.packets_were_asked.Goals as goal
 
 pub returns-clause-asked : goal.returns-clause-asked
 returns-clause-asked c = was_asked

@@ -200,7 +200,7 @@ module _ (config : ConfigValue) where
   goes world (Event.Noise node bytes) = same world world refl
 
   pub adds : (world : WorldState) (event : Event) → Adds world.sent world.stampings (happens config world event).stampings
-  unfolding Adds Goes
+  unfolding Goes
   adds world event = goes world event
 
 -- ---- the shards that a stamp names
