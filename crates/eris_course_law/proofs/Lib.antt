@@ -4,3 +4,4 @@ pub mod Calls
 pub mod Courses
 pub mod Merged
 pub mod Delivered
+pub mod Scripts
