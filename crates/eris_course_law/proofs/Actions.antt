@@ -1,7 +1,7 @@
 -- What an event does at the clients: one of them acts by the input that the event is to it, and its event and what it
 -- sends are added; or none of them acts, and no Ask is sent. An event is taken apart here once for the clients.
-use Rattle.std.proofs.Common.{◌≡◌, ◌⊎◌, inl, inr, ℕ, List, [], ◌∷◌, ◌++◌, true, false, Option, Some, None, refl}
-use Rattle.std.specs.Prelude.{slice_get, slice_set, unwrap_or, if◌then◌else◌}
+use Rattle.std.proofs.Common.{◌≡◌, ℕ, List, [], ◌∷◌, ◌++◌, Option, Some, None, refl}
+use Rattle.std.specs.Prelude.{slice_get, slice_set}
 use Rattle.std.proofs.lemmas.Bool.{cond_both}
 use Rattle.eris_base.specs.declared.ids.ClientId.{ClientId}
 use Rattle.eris_base.specs.declared.ids.Epoch.{Epoch}
@@ -25,12 +25,10 @@ use Rattle.eris_rules.specs.ClientStates.{ClientState, ClientOut}
 use Rattle.eris_rules.specs.Happenings.{after_replica, replica_steps, replica_takes, after_coordinator, coordinator_takes, after_sequencer, sequencer_takes, after_client, client_acts_by, client_acts, comes_to, arrives, delivers, flows, loses, plan_of_transaction, submitted_at, aborts_plan, happens}
 use Rattle.eris_rules.specs.ReplicaStates.{ReplicaState}
 use Rattle.eris_rules.specs.Worlds.{WorldState, replica_at, client_at, has_crashed, with_sends, no_longer_waiting, with_event}
-use Rattle.eris_epoch_law.specs.Members.{In}
-use Rattle.eris_epoch_law.proofs.Members.{Each-at, In-append}
 use Rattle.eris_agreement.specs.OwnSteps.{lowest}
 use Rattle.eris_client_law.specs.ClientRuns.{ClientInput, Submits, Retries, Aborts, Gets, client_does}
 use Rattle.eris_course_law.specs.Inputs.{identity, nothing, given, heard, hears, called, input_of}
-use Rattle.eris_course_law.proofs.ServerSends.{IsNoAsk, NoAsks, IsNoAskSent, replica_no_asks, coord_no_asks, nudge_no_asks, packet_no_asks}
+use Rattle.eris_course_law.proofs.ServerSends.{NoAsks, replica_no_asks, coord_no_asks, nudge_no_asks, packet_no_asks}
 
 -- the clients' side of a world
 pub record ClientSide : Type 0 where

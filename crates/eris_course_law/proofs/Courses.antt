@@ -1,7 +1,7 @@
 -- A RUN OF A WHOLE WORLD IS A COURSE FOR EACH CLIENT: its state at each moment is that of its own course; the world's
 -- history is the merge of the clients' histories; each id's submit stands in its owner's; and each Ask that was sent
 -- rests on its asker's course.
-use Rattle.std.proofs.Common.{◌≡◌, ◌⊎◌, inl, inr, ℕ, zero, suc, ◌≤◌, Bool, true, false, cond, ◌==◌, List, [], ◌∷◌, ◌++◌, Option, Some, None, refl, sym, ap, ◌∙◌, subst, arith, replicate}
+use Rattle.std.proofs.Common.{◌≡◌, ◌⊎◌, inl, inr, ℕ, zero, suc, Bool, true, false, cond, ◌==◌, List, [], ◌∷◌, ◌++◌, Option, Some, None, refl, sym, ap, ◌∙◌, subst, arith, replicate}
 use Rattle.std.specs.Option.{option_map}
 use Rattle.std.specs.Prelude.{slice_get, slice_set}
 use Rattle.std.proofs.lemmas.Bool.{both_ways, cases_Bool, eqb-true, eq-eqb}
@@ -19,7 +19,7 @@ use Rattle.eris_audit.specs.Histories.{first_submit}
 use Rattle.eris_msg.specs.declared.message.Message.{Message}
 use Rattle.eris_msg.specs.declared.outgoing.Outgoing.{Outgoing}
 use Rattle.eris_script.specs.declared.event.Event.{Event}
-use Rattle.eris_rules.specs.Clients.{ask_for, client_step, idle}
+use Rattle.eris_rules.specs.Clients.{client_step, idle}
 use Rattle.eris_rules.specs.ClientStates.{ClientIdentity, ClientOut, ClientState, first_client}
 use Rattle.eris_rules.specs.InPlace.{is_in_place_at_client}
 use Rattle.eris_rules.specs.Worlds.{WorldState, client_at, first_world, with_event}
@@ -29,14 +29,13 @@ use Rattle.eris_epoch_law.proofs.Members.{Each-at, In-append}
 use Rattle.eris_agreement.specs.WorldMoments.{moment_from, perhaps as perhaps_happens, world_at}
 use Rattle.eris_agreement.proofs.Cells.{get-set, get-set_same}
 use Rattle.eris_client_law.specs.ClientRuns.{AbortsOthers, ClientInput, client_does, history_to, moment, perhaps, step_at}
-use Rattle.eris_client_law.specs.Rests.{EventRests, IsAsk}
 use Rattle.eris_client_law.proofs.Asking.{ask_rests}
 use Rattle.eris_client_law.proofs.Growing.{event_stays}
 use Rattle.eris_client_law.proofs.Resting.{event_rests}
 use Rattle.eris_course_law.specs.Accepted.{IsAccepted, IsThere}
 use Rattle.eris_course_law.specs.Inputs.{identity, nothing, given, input_now, input_of, inputs_of}
 use Rattle.eris_course_law.specs.Submitted.{HasAsked, IsOfClient}
-use Rattle.eris_course_law.proofs.Actions.{Acting, ItActs, NobodyActs, OthersAct, Rests, ClientSide, acted, acting, side_of}
+use Rattle.eris_course_law.proofs.Actions.{Acting, ItActs, NobodyActs, OthersAct, Rests, ClientSide, acting, side_of}
 use Rattle.eris_course_law.proofs.Calls.{aborts_others, input-at}
 use Rattle.eris_course_law.proofs.ServerSends.{IsNoAskSent}
 

@@ -1,9 +1,7 @@
 -- THE WORLD'S HISTORY AND A CLIENT'S OWN: what was submitted can be run; what a client was called to abort is a general
 -- transaction with these keys, which its owner submitted before; and a submit is of an id that nobody submitted. So the
 -- world's history is at each moment one of all clients, as the laws of one client ask.
-use Rattle.std.proofs.Common.{◌≡◌, ◌⊎◌, inl, inr, ℕ, zero, suc, ◌≤◌, Bool, true, false, cond, List, [], ◌∷◌, ◌++◌, Option, Some, None, refl, sym, ap, ◌∙◌, subst, arith, unwrap_or, is_some}
-use Rattle.std.specs.Prelude.{slice_get, ⊤}
-use Rattle.std.proofs.lemmas.Bool.{both_ways}
+use Rattle.std.proofs.Common.{◌≡◌, inl, inr, ℕ, zero, suc, ◌≤◌, Bool, true, false, cond, List, [], ◌∷◌, ◌++◌, Option, Some, None, refl, sym, ap, ◌∙◌, subst, arith, unwrap_or}
 use Rattle.eris_base.specs.declared.ids.ClientId.{ClientId}
 use Rattle.eris_base.specs.declared.ids.TxnId.{TxnId}
 use Rattle.eris_base.specs.ConfigLimits.{ConfigValue}
@@ -16,7 +14,7 @@ use Rattle.eris_txn.specs.declared.key.Key.{Key}
 use Rattle.eris_txn.specs.declared.txn.Txn.{Txn}
 use Rattle.eris_txn.specs.declared.txn.Txn.TheVariants.{Whole, General}
 use Rattle.eris_txn.specs.PlanValues.{PlanValue}
-use Rattle.eris_audit.specs.Histories.{first_submit, is_submitted, txn_of}
+use Rattle.eris_audit.specs.Histories.{first_submit}
 use Rattle.eris_script.specs.declared.event.Event.{Event}
 use Rattle.eris_rules.specs.declared.transaction.Course.{Course}
 use Rattle.eris_rules.specs.declared.transaction.Course.TheVariants.{Executing, Reading, Concluding, Aborting}
@@ -25,14 +23,13 @@ use Rattle.eris_rules.specs.ClientStates.{ClientIdentity, ClientState, plan_of, 
 use Rattle.eris_rules.specs.Happenings.{plan_of_transaction, submitted_at, transaction_of}
 use Rattle.eris_rules.specs.Worlds.{WorldState, client_at, first_world, with_event}
 use Rattle.eris_serial.specs.Evidence.{IsIn, SubmitsWell}
-use Rattle.eris_serial.specs.Transactions.{CanRun}
 use Rattle.eris_serial.proofs.Runnable.{Each-of}
 use Rattle.eris_epoch_law.proofs.Members.{Each-at, In-get}
 use Rattle.eris_agreement.specs.WorldMoments.{moment_from, world_at}
 use Rattle.eris_client_law.specs.Bridges.{IsHistoryWith}
 use Rattle.eris_client_law.specs.ClientRuns.{AbortsOthers, ClientInput, Submits, Aborts, WasCalledToAbort, history_to, moment, step_at}
 use Rattle.eris_client_law.specs.Courses.{IsSoFar, events_of, id_of}
-use Rattle.eris_client_law.specs.Rests.{EventRests, HappenedSo}
+use Rattle.eris_client_law.specs.Rests.{EventRests}
 use Rattle.eris_client_law.proofs.Events.{txn_by_events}
 use Rattle.eris_client_law.proofs.Growing.{submit_stays}
 use Rattle.eris_client_law.proofs.Resting.{event_rests, happened}

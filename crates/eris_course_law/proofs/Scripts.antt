@@ -1,11 +1,9 @@
 -- WHAT A SCRIPT SAYS IS FIT: each line is read as an event in the grammar's ranges, and what such an event submits can be
 -- run. So whoever read the events from a script owes nothing more.
-use Rattle.std.proofs.Common.{◌≡◌, ℕ, zero, suc, ◌+◌, Bool, true, false, ◌&&◌, nat_lt, nat_le, is_none, length, List, [], ◌∷◌, ◌++◌, Ok, Err, Result, replicate, refl, sym, ap, ◌∙◌, subst}
+use Rattle.std.proofs.Common.{◌≡◌, ℕ, zero, suc, ◌+◌, Bool, true, false, ◌&&◌, nat_le, is_none, length, List, [], ◌∷◌, ◌++◌, Ok, Err, Result, replicate, refl, subst}
 use Rattle.std.specs.List.{list_all}
-use Rattle.std.specs.Prelude.{IsTrue, ⊤}
 use Rattle.std.proofs.lemmas.Bool.{and_parts, both_ways}
 use Rattle.eris_base.specs.ConfigLimits.{ConfigValue}
-use Rattle.eris_base.specs.Each.{Each}
 use Rattle.eris_base.proofs.Each.{Each-append}
 use Rattle.eris_txn.specs.declared.op.Op.{Op}
 use Rattle.eris_txn.specs.declared.txn.Txn.TheVariants.{Whole, General}
@@ -23,7 +21,7 @@ use Rattle.eris_script.specs.Cuts.{lines}
 use Rattle.eris_script.specs.Fields.{client, key}
 use Rattle.eris_script.specs.Headers.{header_of}
 use Rattle.eris_script.specs.LineForms.{fits_event, line_of}
-use Rattle.eris_script.specs.OpForms.{are_ops, fits_op, most}
+use Rattle.eris_script.specs.OpForms.{are_ops, most}
 use Rattle.eris_script.specs.PlanForms.{fits_guard, fits_setting, is_plan}
 use Rattle.eris_script.specs.Scripts.{BadLine, Script, events_from, events_of, script, script_in, with_config, with_events}
 use Rattle.eris_script.proofs.SpellingLaws.{read_as_spelled}

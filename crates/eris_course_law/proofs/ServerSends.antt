@@ -2,7 +2,7 @@
 -- the clients that asked for them.
 use Rattle.std.proofs.Common.{ℕ, List}
 use Rattle.std.specs.List.{range_with_len}
-use Rattle.std.specs.Prelude.{⊤, if◌then◌else◌}
+use Rattle.std.specs.Prelude.{⊤}
 use Rattle.std.proofs.lemmas.Bool.{cond_both}
 use Rattle.eris_base.specs.declared.ids.Epoch.{Epoch}
 use Rattle.eris_base.specs.ConfigLimits.{ConfigValue}

@@ -1,7 +1,7 @@
 -- THE COURSE OF EACH CLIENT IN A RUN OF A WHOLE WORLD: what each event of the run is to the client. There is one input
 -- for each event, so the moments of the run are those of each client's course. An event that is no affair of the
 -- client's counts as a message that no client takes.
-use Rattle.std.specs.Prelude.{ℕ, ◌==◌, Option, Some, None, List, [], ◌∷◌, slice_get, if◌then◌else◌}
+use Rattle.std.specs.Prelude.{◌==◌, Option, Some, None, List, [], ◌∷◌, if◌then◌else◌}
 use Rattle.eris_base.specs.declared.ids.ClientId.{ClientId}
 use Rattle.eris_base.specs.declared.ids.Node.{Node}
 use Rattle.eris_base.specs.declared.ids.Node.TheVariants.{Sequencer, Coordinator, Replica, Client}

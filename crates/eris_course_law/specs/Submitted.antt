@@ -1,6 +1,6 @@
 -- WHAT A WORLD HAS FROM ITS CLIENTS: an Ask was sent by a client of the world, and its body rests on the course of that
 -- client as it was then; an event of the history stands in a client's own; and a message that came was sent.
-use Rattle.std.specs.Prelude.{◌≡◌, ℕ, ◌≤◌, List}
+use Rattle.std.specs.Prelude.{ℕ, ◌≤◌, List}
 use Rattle.eris_base.specs.declared.ids.ClientId.{ClientId}
 use Rattle.eris_base.specs.declared.ids.Node.{Node}
 use Rattle.eris_base.specs.declared.ids.TxnId.{TxnId}

@@ -1,19 +1,16 @@
 -- WHAT WAS ANSWERED BEFORE A SUBMIT stands before it in the order. An answered id was counted in its first half, by messages
 -- that were sent by then; and no packet of an id is stamped before the id is submitted.
-use Rattle.std.proofs.Common.{◌≡◌, inl, inr, ℕ, suc, ◌≤◌, true, Some, None, Option, List, [], ◌∷◌, map, refl, sym, ap, ◌∙◌, subst, arith, is_some}
-use Rattle.std.specs.Prelude.{⊤}
+use Rattle.std.proofs.Common.{◌≡◌, inl, inr, ℕ, suc, ◌≤◌, true, Some, None, Option, List, [], ◌∷◌, refl, sym, ap, ◌∙◌, subst, arith, is_some}
 use Rattle.std.proofs.lemmas.Bool.{eq-eqb, or_left, both_ways}
 use Rattle.eris_base.specs.declared.ids.ClientId.{ClientId}
 use Rattle.eris_base.specs.declared.ids.Phase.{Phase}
 use Rattle.eris_base.specs.declared.ids.ShardId.{ShardId}
 use Rattle.eris_base.specs.declared.ids.TxnId.{TxnId}
 use Rattle.eris_base.specs.ConfigLimits.{ConfigValue}
-use Rattle.eris_base.specs.Each.{Each, EachAfter}
+use Rattle.eris_base.specs.Each.{EachAfter}
 use Rattle.eris_txn.specs.declared.answer.Answer.{Answer}
 use Rattle.eris_txn.specs.declared.history.HistoryEvent.{HistoryEvent}
 use Rattle.eris_txn.specs.declared.history.HistoryEvent.TheVariants.{Submit, Read, Answer as Answered, Told}
-use Rattle.eris_txn.specs.declared.op.Op.{Op}
-use Rattle.eris_txn.specs.declared.packet.Packet.{Packet}
 use Rattle.eris_txn.specs.declared.txn.Txn.{Txn}
 use Rattle.eris_txn.specs.declared.txn.Txn.TheVariants.{Whole, General}
 use Rattle.eris_txn.specs.Operations.{key_of}
@@ -21,21 +18,18 @@ use Rattle.eris_audit.specs.Histories.{first_submit}
 use Rattle.eris_script.specs.declared.event.Event.{Event}
 use Rattle.eris_rules.specs.ClientStates.{ClientIdentity}
 use Rattle.eris_rules.specs.WorldOrders.{order}
-use Rattle.eris_serial.specs.Evidence.{AnsweredFirst, IsIn, StandsBehind, SubmitsWell, SubmittedLater}
-use Rattle.eris_serial.specs.Times.{IsOwn}
+use Rattle.eris_serial.specs.Evidence.{AnsweredFirst, IsIn, SubmitsWell, SubmittedLater}
 use Rattle.eris_serial.specs.Transactions.{CanRun, takes_part}
 use Rattle.eris_serial.proofs.CountedStands.{some_shard, prelim_is_own}
 use Rattle.eris_serial.proofs.Runnable.{Each-in, Each-of}
 use Rattle.eris_agreement.specs.WorldMoments.{world_at}
 use Rattle.eris_client_law.specs.ClientRuns.{ClientInput, history_to, step_at}
 use Rattle.eris_client_law.specs.Courses.{events_of}
-use Rattle.eris_client_law.specs.Rests.{AnswerRests, EventRests, HappenedSo, OfConclusion, OfRefusal, OfWhole}
+use Rattle.eris_client_law.specs.Rests.{AnswerRests, EventRests, OfConclusion, OfRefusal, OfWhole}
 use Rattle.eris_client_law.proofs.Events.{event_there}
-use Rattle.eris_client_law.proofs.Growing.{event_stays}
 use Rattle.eris_client_law.proofs.Resting.{happened}
 use Rattle.eris_course_law.specs.Accepted.{AreEventsFit, IsAccepted, IsThere}
 use Rattle.eris_course_law.specs.Inputs.{identity, inputs_of}
-use Rattle.eris_course_law.specs.Submitted.{IsOfClient}
 use Rattle.eris_course_law.proofs.Calls.{aborts_others}
 use Rattle.eris_course_law.proofs.Courses.{event_from, event_to}
 use Rattle.eris_course_law.proofs.Merged.{each_added, is_new, submits_well}

@@ -1,6 +1,6 @@
 -- WHAT A CLIENT OF THE WORLD COUNTED is said over the order: what came to it was sent. So each event of the history is
 -- counted as evidence asks.
-use Rattle.std.proofs.Common.{◌≡◌, ℕ, suc, ◌≤◌, List, arith}
+use Rattle.std.proofs.Common.{ℕ, ◌≤◌, List, arith}
 use Rattle.eris_base.specs.declared.ids.ClientId.{ClientId}
 use Rattle.eris_base.specs.declared.ids.ShardId.{ShardId}
 use Rattle.eris_base.specs.declared.ids.TxnId.{TxnId}
@@ -8,11 +8,10 @@ use Rattle.eris_base.specs.ConfigLimits.{ConfigValue}
 use Rattle.eris_base.specs.Each.{Each}
 use Rattle.eris_txn.specs.declared.answer.Answer.{Answer}
 use Rattle.eris_txn.specs.declared.body.Body.{Body}
-use Rattle.eris_txn.specs.declared.history.HistoryEvent.{HistoryEvent}
 use Rattle.eris_locks.specs.States.{phase_of}
 use Rattle.eris_script.specs.declared.event.Event.{Event}
 use Rattle.eris_rules.specs.WorldOrders.{order}
-use Rattle.eris_serial.specs.Evidence.{Counted, IsIn}
+use Rattle.eris_serial.specs.Evidence.{Counted}
 use Rattle.eris_serial.proofs.Runnable.{Each-in, Each-of}
 use Rattle.eris_agreement.specs.EpochRuns.{servers_at}
 use Rattle.eris_agreement.specs.WorldMoments.{world_at}

@@ -4,14 +4,12 @@ use Rattle.std.proofs.Common.{◌≡◌, ℕ, List, ◌++◌, length, Some, sym,
 use Rattle.eris_base.specs.ConfigLimits.{ConfigValue}
 use Rattle.eris_base.proofs.Each.{Each-left}
 use Rattle.eris_script.specs.declared.event.Event.{Event}
-use Rattle.eris_rules.specs.Good.{AreSettledRight, Good}
+use Rattle.eris_rules.specs.Good.{Good}
 use Rattle.eris_rules.specs.Runs.{run}
 use Rattle.eris_rules.specs.WorldOrders.{lines_of_world, order}
 use Rattle.eris_rules.specs.Worlds.{WorldState}
 use Rattle.eris_agreement.specs.WorldMoments.{world_at}
 use Rattle.eris_agreement.proofs.Moments.{front_accepted, run-moment}
-use Rattle.eris_audit.specs.IsSerial.{IsSerial}
-use Rattle.eris_audit.specs.Lines.{lines_of}
 use Rattle.eris_order_law.proofs.SettledFronts.{settled_right}
 use Rattle.eris_serial_law.proofs.Rules.{serial_order}
 use Rattle.eris_course_law.specs.Accepted.{AreEventsFit, IsAccepted, IsEventFit}
@@ -33,11 +31,6 @@ good_run config events fit world h =
     subst Good (sym (run-moment config events world h)) (good_at config events (accepted config events world h) fit (length events))
 
 -- so it is after any first events of an accepted list, which are accepted
-pub record HasGoodFront (config : ConfigValue) (front : List Event) : Type 0 where
-  pub middle : WorldState
-  pub accepted_is : run config front ≡ Some middle
-  pub good : Good middle
-
 pub good_front : (config : ConfigValue) (front back : List Event) → AreEventsFit (front ++ back) → (world : WorldState) → run config (front ++ back) ≡ Some world
     → (middle : WorldState) × (run config front ≡ Some middle) × Good middle
 good_front config front back fit world h =

@@ -1,7 +1,7 @@
 -- Each stamped packet was asked for: an event adds to the stamping list at most the packet of an Ask that was sent.
-use Rattle.std.proofs.Common.{◌≡◌, ◌⊎◌, inl, inr, ℕ, zero, suc, ◌+◌, Bool, true, false, cond, List, [], ◌∷◌, ◌++◌, map, length, Option, Some, None, refl, sym, ap, ◌∙◌, subst, is_some}
+use Rattle.std.proofs.Common.{◌≡◌, ◌⊎◌, inl, inr, ℕ, zero, suc, ◌+◌, Bool, true, false, cond, List, [], ◌∷◌, ◌++◌, Option, Some, None, refl, sym, subst, is_some}
 use Rattle.std.specs.Option.{option_map}
-use Rattle.std.specs.Prelude.{slice_get, slice_set, unwrap_or, find, if◌then◌else◌, ◌==◌, ◌||◌}
+use Rattle.std.specs.Prelude.{slice_get, slice_set, unwrap_or, find, ◌==◌, ◌||◌}
 use Rattle.std.proofs.lemmas.Bool.{cond_both}
 use Rattle.eris_base.specs.declared.ids.ClientId.{ClientId}
 use Rattle.eris_base.specs.declared.ids.Epoch.{Epoch}

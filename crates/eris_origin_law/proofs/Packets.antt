@@ -1,7 +1,7 @@
 -- WHERE EACH STAMPED PACKET COMES FROM, in the words of evidence: its id was submitted, its stamp names the shards that
 -- take part, its body is its transaction's, and a Commit's writes are made of a Read of the history.
-use Rattle.std.proofs.Common.{◌≡◌, ◌⊎◌, inl, inr, ℕ, zero, suc, ◌≤◌, Bool, true, false, List, [], ◌∷◌, Option, Some, None, refl, sym, ap, ◌∙◌, subst, arith, unwrap_or, is_some}
-use Rattle.std.specs.Prelude.{slice_get, ⊤, IsTrue}
+use Rattle.std.proofs.Common.{◌≡◌, ◌⊎◌, inl, inr, ℕ, zero, suc, ◌≤◌, true, List, [], Option, Some, None, refl, sym, ap, ◌∙◌, subst, arith, unwrap_or, is_some}
+use Rattle.std.specs.Prelude.{slice_get, IsTrue}
 use Rattle.eris_base.specs.declared.ids.ClientId.{ClientId}
 use Rattle.eris_base.specs.declared.ids.Node.TheVariants.{Sequencer}
 use Rattle.eris_base.specs.declared.ids.ShardId.{ShardId}
@@ -13,7 +13,6 @@ use Rattle.eris_txn.specs.declared.history.HistoryEvent.{HistoryEvent}
 use Rattle.eris_txn.specs.declared.history.HistoryEvent.TheVariants.{Read}
 use Rattle.eris_txn.specs.declared.key.Key.{Key}
 use Rattle.eris_txn.specs.declared.packet.Packet.{Packet}
-use Rattle.eris_txn.specs.declared.plan.Write.{Write}
 use Rattle.eris_txn.specs.declared.txn.Txn.{Txn}
 use Rattle.eris_txn.specs.declared.txn.Txn.TheVariants.{Whole, General}
 use Rattle.eris_txn.specs.Bodies.{any_on, has_shard, participants_of}
@@ -21,13 +20,12 @@ use Rattle.eris_txn.proofs.BodyLaws.{has_shard-participants}
 use Rattle.eris_audit.specs.Histories.{first_submit, is_submitted, txn_of}
 use Rattle.eris_locks.specs.Shards.{names_shard}
 use Rattle.eris_script.specs.declared.event.Event.{Event}
-use Rattle.eris_sequencer.specs.declared.stamping.Stamping.{Stamping}
 use Rattle.eris_sequencer.specs.Sequencers.{first_stampings, new_stamping}
 use Rattle.eris_sequencer.specs.Stamps.{next_packet}
 use Rattle.eris_rules.specs.ClientStates.{ClientIdentity}
 use Rattle.eris_rules.specs.WorldOrders.{stamping_list}
 use Rattle.eris_rules.specs.Worlds.{WorldState, first_world}
-use Rattle.eris_serial.specs.Evidence.{BodyOrigin, CommitOrigin, HasCommitOrigin, IsIn}
+use Rattle.eris_serial.specs.Evidence.{BodyOrigin, HasCommitOrigin}
 use Rattle.eris_serial.specs.Transactions.{takes_part}
 use Rattle.eris_epoch_law.specs.Members.{In}
 use Rattle.eris_agreement.specs.WorldMoments.{moment_from, perhaps, world_at}
