@@ -8,3 +8,5 @@ pub mod Calm
 pub mod Queues
 pub mod Moving
 pub mod Stamping
+pub mod Carrying
+pub mod Counting

@@ -14,6 +14,8 @@ use Rattle.eris_txn.specs.declared.op.Op.{Op}
 use Rattle.eris_txn.specs.declared.packet.Packet.{Packet}
 use Rattle.eris_txn.specs.declared.txn.Txn.{Txn}
 use Rattle.eris_msg.specs.declared.outgoing.Outgoing.{Outgoing}
+use Rattle.eris_rules.specs.declared.transaction.Course.TheVariants.{Executing}
+use Rattle.eris_rules.specs.declared.transaction.Transaction.{Transaction}
 use Rattle.eris_rules.specs.declared.transaction.Vote.{Vote}
 use Rattle.eris_rules.specs.ClientStates.{ClientState, transaction_at}
 use Rattle.eris_rules.specs.ReplicaStates.{ReplicaState}
@@ -57,7 +59,7 @@ module _ (config : ConfigValue) (before after : List HistoryEvent) (keeps : Keep
   lives_still replicas shard replica count lives =
       record { packets = lives.packets; at = lives.at; many = lives.many; whole = Each-weaker (IsWhole (Submitted before)) (IsWhole (Submitted after)) whole_still lives.packets lives.whole }
 
-  answered_still : (id : TxnId) → IsAnswered id before → IsAnswered id after
+  pub answered_still : (id : TxnId) → IsAnswered id before → IsAnswered id after
   answered_still id is = (is.0, keeps _ is.1)
 
   -- A TRANSACTION that a step doesn't touch, where it is still on its way
@@ -114,6 +116,21 @@ module _ (config : ConfigValue) (crashed : List (ShardId × ReplicaId)) (one : O
       stage_next shard replica (Said found learner (inl e)) = brings.tells stamp shard replica found learner e
       stage_next shard replica (Said found learner (inr i)) = Said found learner (brings.stays _ i)
       stage_next shard replica (Heard vote) = Heard (brings.keeps stamp shard replica vote)
+
+-- AN ID HAS ONE TRANSACTION
+module _ (config : ConfigValue) (history : List HistoryEvent) (clients : List ClientState) (crashed : List (ShardId × ReplicaId)) (rest : List Outgoing) (jobs : (id : TxnId) (ops : List Op) → Submitted history id ops → Job config history clients crashed rest id ops) where
+  one_state : (id : TxnId) (some more : ClientState) → client_at clients id.client ≡ Some some → client_at clients id.client ≡ Some more → some ≡ more
+  one_state id some more h k = let same : Some some ≡ Some more = sym h ∙ k in cc
+
+  pub one_transaction : (id : TxnId) (some more : List Op) → Submitted history id some → Submitted history id more → some ≡ more
+  one_transaction id some more h k =
+      let first = jobs id some h in
+      let second = jobs id more k in
+      let states = one_state id first.state second.state first.there second.there in
+      let found : Some first.transaction ≡ Some second.transaction = sym first.found ∙ ap (λ (s : ClientState). transaction_at s id) states ∙ second.found in
+      let transactions : first.transaction ≡ second.transaction = cc in
+      let courses : Executing some ≡ Executing more = sym first.course ∙ ap (λ (t : Transaction). t.course) transactions ∙ second.course in
+      cc
 
 -- ---- numbers
 pub numbered_more : (shard : ShardId) (from : ℕ) (some more : List Packet) → NumberedFrom shard from some → NumberedFrom shard (from + length some) more → NumberedFrom shard from (some ++ more)

@@ -12,6 +12,7 @@ use Rattle.eris_base.specs.declared.ids.ShardId.{ShardId}
 use Rattle.eris_base.specs.declared.ids.View.{View}
 use Rattle.eris_base.specs.Each.{Each}
 use Rattle.eris_base.specs.Places.{number_in}
+use Rattle.eris_base.specs.Quorums.{learner_of, same_replica}
 use Rattle.eris_base.specs.ConfigLimits.{ConfigValue}
 use Rattle.eris_txn.specs.declared.answer.Answer.{Answer}
 use Rattle.eris_txn.specs.declared.packet.Packet.{Packet}
@@ -161,10 +162,28 @@ module _ (config : ConfigValue) (shard : ShardId) (replica : ReplicaId) (packets
   now = record { config = config; shard = shard; replica = replica }
 
   -- A PACKET COMES in its order, in place and of epoch 0
-  pub receives : packet.stamp.epoch ≡ record { 0 = 0 } → is_in_place_at_replica config (Message.Txn packet) ≡ true
+  receives : packet.stamp.epoch ≡ record { 0 = 0 } → is_in_place_at_replica config (Message.Txn packet) ≡ true
       → replica_step now (state_after shard packets) (ReplicaInput.Message (Message.Txn packet)) ≡ record { state = state_after shard all; sends = outer_sends (record { 0 = 0 }) says }
   unfolding replica_step message_step takes takes_inner steps steps_in
   receives epoch_is in_place =
       cond-true _ _ _ in_place
       ∙ cond-true _ _ _ (ap (λ (e : Epoch). (e.0 == 0) && not (nat_lt 0 0)) epoch_is)
       ∙ ap (λ (out : EpochOut). record { state = record (state_after shard packets) { inner = out.state }; sends = outer_sends (record { 0 = 0 }) out.sends }) steps_on
+
+  -- a replica that isn't the learner vouches for it, and the learner answers what the store does
+  abbrev told : Message → ReplicaOut
+  told message = record { state = state_after shard all; sends = record { to = Client packet.asker; message = message } ∷ [] }
+
+  pub vouches : packet.stamp.epoch ≡ record { 0 = 0 } → is_in_place_at_replica config (Message.Txn packet) ≡ true → same_replica replica (learner_of (record { 0 = 0 }) config.f) ≡ false
+      → replica_step now (state_after shard packets) (ReplicaInput.Message (Message.Txn packet)) ≡ told (Message.Vouch (record { 0 = 0 }) shard replica packet.stamp packet.id (phase_of packet.body))
+  vouches epoch_is in_place other =
+      receives epoch_is in_place
+      ∙ ap (λ (sends : List EpochSend). record { state = state_after shard all; sends = outer_sends (record { 0 = 0 }) sends }) (cond-false _ _ _ other)
+
+  pub replies : packet.stamp.epoch ≡ record { 0 = 0 } → is_in_place_at_replica config (Message.Txn packet) ≡ true → same_replica replica (learner_of (record { 0 = 0 }) config.f) ≡ true
+      → (answer : Answer) → answer_after shard packets packet ≡ Some answer
+      → replica_step now (state_after shard packets) (ReplicaInput.Message (Message.Txn packet)) ≡ told (Message.Reply (record { 0 = 0 }) shard replica packet.stamp packet.id (phase_of packet.body) answer)
+  replies epoch_is in_place own answer given =
+      receives epoch_is in_place
+      ∙ ap (λ (sends : List EpochSend). record { state = state_after shard all; sends = outer_sends (record { 0 = 0 }) sends }) (cond-true _ _ _ own)
+      ∙ ap (λ (found : Option Answer). record { state = state_after shard all; sends = outer_sends (record { 0 = 0 }) (replies_with me held packet found) }) given

@@ -7,6 +7,8 @@ use Rattle.std.proofs.lemmas.Bool.{and_from, and_parts, cond-false, cond-true, e
 use Rattle.std.specs.List.{flat_map, list_all, list_any, range_with_len}
 use Rattle.eris_base.specs.declared.ids.Epoch.{Epoch}
 use Rattle.eris_base.specs.declared.ids.Node.TheVariants.{Client, Replica, Sequencer}
+use Rattle.eris_base.specs.declared.ids.Phase.{Phase}
+use Rattle.eris_txn.specs.declared.answer.Answer.{Answer}
 use Rattle.eris_base.specs.declared.ids.ReplicaId.{ReplicaId}
 use Rattle.eris_base.specs.declared.ids.ShardId.{ShardId}
 use Rattle.eris_base.specs.declared.ids.TxnId.{TxnId}
@@ -37,9 +39,10 @@ use Rattle.eris_rules.specs.InPlace.{names_exactly}
 use Rattle.eris_rules.specs.Known.{knows_keys, knows_pairs, knows_shard}
 use Rattle.eris_rules.specs.ReplicaStates.{ReplicaState}
 use Rattle.eris_rules.specs.Worlds.{WorldState, no_longer_waiting, with_sends}
+use Rattle.eris_client_law.specs.Counts.{message_of, message_with}
 use Rattle.eris_epoch_law.specs.Members.{In}
 use Rattle.eris_epoch_law.proofs.Members.{Each-by_In, Each-flat_map, In-left, In-right, any_from, any_witness}
-use Rattle.eris_undisturbed_law.proofs.Calm.{Carries, Coming, Down, Fine, Heard, IsCalmWorld, IsCarried, IsCell, IsJob, NumberedFrom, Said, Spread, Stage, Unstamped, Way, asking, packet_of, shards_of_ops, weigh}
+use Rattle.eris_undisturbed_law.proofs.Calm.{Carries, Coming, Down, Fine, Heard, IsCalmWorld, IsCarried, IsCell, IsJob, NumberedFrom, Said, Spread, Stage, Unstamped, Way, asking, packet_of, shards_of_ops, weigh, weight}
 use Rattle.eris_undisturbed_law.proofs.Moving.{Brings, job_kept, numbered_more, reads_itself, way_next}
 use Rattle.eris_undisturbed_law.proofs.Queues.{queue_more, queue_next}
 use Rattle.eris_undisturbed_law.proofs.Sending.{carrying, coming, is_to, packet_in, coming-append, coming_sent, next_known, next_names, next_number, sent_to}
@@ -65,9 +68,16 @@ pub all_shards_known : (config : ConfigValue) (ops : List Op) → knows_keys con
 all_shards_known config ops h = all_pass _ (shards_of_ops ops) (λ shard i. lt-ltb _ _ (known_shard config ops shard h (in_shards (shards_of_ops ops) shard i)))
 
 -- ---- how much the packets weigh
-weigh-append : (config : ConfigValue) (some more : List Outgoing) → weigh config (some ++ more) ≡ weigh config some + weigh config more
+pub weigh-append : (config : ConfigValue) (some more : List Outgoing) → weigh config (some ++ more) ≡ weigh config some + weigh config more
 weigh-append config [] more = let e : 0 + weigh config more ≡ weigh config more = omega arith in sym e
 weigh-append config (one ∷ some) more = let rest = weigh-append config some more in omega (arith, rest)
+
+weight-with : (config : ConfigValue) (id : TxnId) (vote : Vote) (found : Option Answer) → weight config (message_with vote id Phase.Whole found) ≡ 1
+weight-with config id vote None = refl
+weight-with config id vote (Some answer) = refl
+
+pub weight-vote : (config : ConfigValue) (id : TxnId) (vote : Vote) → weight config (message_of vote id Phase.Whole) ≡ 1
+weight-vote config id vote = weight-with config id vote vote.answer
 
 weigh-range : (config : ConfigValue) (packet : Packet) (shard : ShardId) (from many : ℕ) → weigh config (map (λ r. carrying packet shard r) (range_with_len from many)) ≡ 2 * many
 weigh-range config packet shard from zero = refl
