@@ -144,7 +144,7 @@ module _ (me : ClientIdentity) (state : ClientState) (id : TxnId) (ops : List Op
       (hears_it how)
 
 -- ---- a vote is one of its message
-same_vote : (v w : Vote) (i j : TxnId) (given other : Option Answer) → v.answer ≡ given → w.answer ≡ other → message_with v i Phase.Whole given ≡ message_with w j Phase.Whole other → (i ≡ j) × (v ≡ w)
+pub same_vote : (v w : Vote) (i j : TxnId) (given other : Option Answer) → v.answer ≡ given → w.answer ≡ other → message_with v i Phase.Whole given ≡ message_with w j Phase.Whole other → (i ≡ j) × (v ≡ w)
 same_vote v w i j None None gv gw h =
     let shard : v.shard ≡ w.shard = cc in
     let replica : v.replica ≡ w.replica = cc in
@@ -165,18 +165,18 @@ same_vote v w i j (Some a) (Some b) gv gw h =
 same_vote v w i j None (Some b) gv gw h = absurd (cc)
 same_vote v w i j (Some a) None gv gw h = absurd (cc)
 
-in_place_by : (config : ConfigValue) (ops : List Op) (id : TxnId) (vote : Vote) (given : Option Answer) → knows_client config id.client ≡ true → IsRight config ops vote → is_in_place_at_client config (message_with vote id Phase.Whole given) ≡ true
+pub in_place_by : (config : ConfigValue) (ops : List Op) (id : TxnId) (vote : Vote) (given : Option Answer) → knows_client config id.client ≡ true → IsRight config ops vote → is_in_place_at_client config (message_with vote id Phase.Whole given) ≡ true
 unfolding is_in_place_at_client is_sound knows_all all_name_participants
 in_place_by config ops id vote None known right = and_from _ _ (and_from _ _ right.shard (and_from _ _ right.replica (and_from _ _ right.stamp known))) refl
 in_place_by config ops id vote (Some answer) known right = and_from _ _ (and_from _ _ right.shard (and_from _ _ right.replica (and_from _ _ right.stamp known))) refl
 
 -- ---- the history
-keeps_with : (history : List HistoryEvent) (event : Option HistoryEvent) → Keeps history (with_event history event)
+pub keeps_with : (history : List HistoryEvent) (event : Option HistoryEvent) → Keeps history (with_event history event)
 keeps_with history None one i = i
 keeps_with history (Some event) one i = In-left one history (event ∷ []) i
 
 -- an event that submits nothing
-submits_none : (history : List HistoryEvent) (event : Option HistoryEvent) (id : TxnId) → (event ≡ None) ⊎ ((answer : Answer) × (event ≡ Some (HistoryEvent.Answer id answer)))
+pub submits_none : (history : List HistoryEvent) (event : Option HistoryEvent) (id : TxnId) → (event ≡ None) ⊎ ((answer : Answer) × (event ≡ Some (HistoryEvent.Answer id answer)))
     → (other : TxnId) (txn : Txn) → In (HistoryEvent.Submit other txn) (with_event history event) → In (HistoryEvent.Submit other txn) history
 submits_none history event id (inl none) other txn i = subst (λ (e : Option HistoryEvent). In (HistoryEvent.Submit other txn) (with_event history e)) none i
 submits_none history event id (inr given) other txn i = by_time (In-append _ history (HistoryEvent.Answer id given.0 ∷ []) (subst (λ (e : Option HistoryEvent). In (HistoryEvent.Submit other txn) (with_event history e)) given.1 i))

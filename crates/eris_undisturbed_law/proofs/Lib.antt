@@ -10,3 +10,4 @@ pub mod Moving
 pub mod Stamping
 pub mod Carrying
 pub mod Counting
+pub mod Answering
