@@ -11,3 +11,4 @@ pub mod Stamping
 pub mod Carrying
 pub mod Counting
 pub mod Answering
+pub mod Submitting
