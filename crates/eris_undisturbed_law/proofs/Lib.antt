@@ -12,3 +12,5 @@ pub mod Carrying
 pub mod Counting
 pub mod Answering
 pub mod Submitting
+pub mod Flowing
+pub mod Growing
