@@ -14,3 +14,5 @@ pub mod Answering
 pub mod Submitting
 pub mod Flowing
 pub mod Growing
+pub mod Starting
+pub mod Running
