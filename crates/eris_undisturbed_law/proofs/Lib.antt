@@ -16,3 +16,4 @@ pub mod Flowing
 pub mod Growing
 pub mod Starting
 pub mod Running
+pub mod Answered
