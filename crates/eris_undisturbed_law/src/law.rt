@@ -1,0 +1,2 @@
+/// Nothing yet.
+pub fn undisturbed_scripts_answer() {}
