@@ -1,12 +1,12 @@
 -- A message that has a spelling has its fields in their ranges; and by what a part and the marks in it are in
 -- range. The nodes use this for what comes to them and what they send.
-use Rattle.std.proofs.Common.{◌≡◌, ℕ, ◌-◌, ◌&&◌, ◌||◌, ◌==◌, nat_lt, Bool, true, false, cond, Option, None, Some, List, [], ◌∷◌, ◌++◌, length, slice_get, map, refl, ap, sym, ◌∙◌, subst, arith}
+use Rattle.std.proofs.Common.{◌≡◌, ℕ, ◌-◌, ◌<◌, ◌^◌, ◌&&◌, ◌||◌, ◌==◌, nat_lt, Bool, true, false, cond, Option, None, Some, List, [], ◌∷◌, ◌++◌, length, slice_get, map, refl, ap, sym, ◌∙◌, subst, arith}
 use Rattle.std.specs.List.{list_all, AllByRecursion}
 use Rattle.std.specs.Option.{option_map}
 use Rattle.std.specs.Ordering.{nat_cmp, ordering_then, is_lt}
 use Rattle.std.specs.declared.cmp.Ordering.{Ordering}
 use Rattle.std.specs.declared.cmp.Ordering.TheVariants.{Less, Equal, Greater}
-use Rattle.std.proofs.lemmas.Bool.{and_parts, and_from, eqb-true}
+use Rattle.std.proofs.lemmas.Bool.{and_parts, and_from, eqb-true, lt-ltb}
 use Rattle.std.proofs.lemmas.Cmp.{nat_cmp_total, tied_itself}
 use Rattle.std.proofs.lemmas.List.{length-append}
 use Rattle.eris_base.specs.declared.ids.Epoch.{Epoch}
@@ -24,8 +24,8 @@ use Rattle.eris_msg.specs.Parts as p
 use Rattle.eris_msg.specs.Ranges.{PlaceInRange, HeldInRange}
 use Rattle.eris_msg.specs.Spellings.{message_fits, part_fits}
 use Rattle.eris_msg.proofs.MessageFits as m
-use Rattle.eris_msg.proofs.RangeLaws.{part_parts}
-use Rattle.eris_in_place.specs.MessageRanges.{PacketsFit, PairsFit, PartFits, MessageFits}
+use Rattle.eris_msg.proofs.RangeLaws.{part_parts, part_fits-from}
+use Rattle.eris_in_place.specs.MessageRanges.{PacketsFit, PairsFit, PartFits, MessageFits, IsCounted}
 
 left_of : (a b : Bool) → (a && b) ≡ true → a ≡ true
 left_of a b h = (and_parts a b h).0
@@ -227,3 +227,33 @@ message_is_in_range (Message.StartEpoch epoch shard packets) h =
     let rest = right_of (f.epoch.fits epoch) (f.shard.fits shard && f.packets.fits packets) fits in
     (left_of (f.epoch.fits epoch) _ fits, left_of (f.shard.fits shard) (f.packets.fits packets) rest, packets_fit packets (right_of (f.shard.fits shard) (f.packets.fits packets) rest))
 message_is_in_range message h = h
+
+-- ---- and back
+word_fits : (n : ℕ) → n < 2 ^ 32 → f.word.fits n ≡ true
+unfolding f.word
+word_fits n h = lt-ltb n (2 ^ 32) h
+
+packets_from : (before packets : List Packet) → PacketsFit packets → items_fit (λ _. f.packet) before packets ≡ true
+packets_from before [] h = refl
+packets_from before (packet ∷ packets) h = and_from _ _ h.0 (packets_from (before ++ packet ∷ []) packets h.1)
+
+packets_counted : (packets : List Packet) → PacketsFit packets → length packets < 2 ^ 32 → f.packets.fits packets ≡ true
+unfolding f.packets
+packets_counted packets h few = and_from _ _ (word_fits (length packets) few) (packets_from [] packets h)
+
+places_counted : (pairs : List (ShardId × ℕ)) → PairsFit pairs → length pairs < 2 ^ 32 → p.places.fits pairs ≡ true
+unfolding p.places
+places_counted pairs h few = and_from _ _ (word_fits (length pairs) few) h
+
+-- A MESSAGE IN ITS RANGES whose lists are counted has a spelling
+pub counted_message_fits : (message : Message) → MessageFits message → IsCounted message → message_fits message ≡ true
+counted_message_fits (Message.ViewChange replica view part) h few =
+    m.view_change_fits replica view part ∙ and_from _ _ h.0 (and_from _ _ h.1 (part_fits-from part h.2.is h.2.ranges few))
+counted_message_fits (Message.StartView view part) h few = m.start_view_fits view part ∙ and_from _ _ h.0 (part_fits-from part h.1.is h.1.ranges few)
+counted_message_fits (Message.Settled epoch view number places) h few =
+    m.settled_fits epoch view number places ∙ and_from _ _ h.0 (and_from _ _ h.1 (and_from _ _ h.2 (places_counted places h.3 few)))
+counted_message_fits (Message.EpochState replica epoch part) h few =
+    m.epoch_state_fits replica epoch part ∙ and_from _ _ h.0 (and_from _ _ h.1 (part_fits-from part h.2.is h.2.ranges few))
+counted_message_fits (Message.StartEpoch epoch shard packets) h few =
+    m.start_epoch_fits epoch shard packets ∙ and_from _ _ h.0 (and_from _ _ h.1 (packets_counted packets h.2 few))
+counted_message_fits message h few = h

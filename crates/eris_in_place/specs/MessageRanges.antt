@@ -1,7 +1,7 @@
 -- The messages whose fields are in their ranges, but for the counts of their lists of packets and places. Such a
 -- list may in principle be longer than a count of four bytes can tell; so whoever spells a message asks for its
 -- size first. What a node keeps and sends is in these ranges.
-use Rattle.std.specs.Prelude.{◌≡◌, ℕ, true, List, []}
+use Rattle.std.specs.Prelude.{◌≡◌, ◌<◌, ◌^◌, ℕ, true, List, [], length, ⊤}
 use Rattle.eris_base.specs.declared.ids.Place.{Place}
 use Rattle.eris_base.specs.declared.ids.ShardId.{ShardId}
 use Rattle.eris_base.specs.Each.{Each}
@@ -13,7 +13,7 @@ use Rattle.eris_msg.specs.declared.message.Message.{Message}
 use Rattle.eris_msg.specs.declared.outgoing.Outgoing.{Outgoing}
 use Rattle.eris_msg.specs.Fields as f
 use Rattle.eris_msg.specs.Parts as p
-use Rattle.eris_msg.specs.Ranges.{PartInRange}
+use Rattle.eris_msg.specs.Ranges.{PartInRange, PartCounted}
 use Rattle.eris_msg.specs.Spellings.{message_fits, packet_fits}
 
 abbrev pub PacketFits : Packet → Type 0
@@ -46,6 +46,15 @@ MessageFits (Message.Settled epoch view number places) =
 MessageFits (Message.EpochState replica epoch part) = (f.replica.fits replica ≡ true) × (f.epoch.fits epoch ≡ true) × PartFits part
 MessageFits (Message.StartEpoch epoch shard packets) = (f.epoch.fits epoch ≡ true) × (f.shard.fits shard ≡ true) × PacketsFit packets
 MessageFits message = message_fits message ≡ true
+
+-- and those counts are in theirs
+abbrev pub IsCounted : Message → Type 0
+IsCounted (Message.ViewChange replica view part) = PartCounted part
+IsCounted (Message.StartView view part) = PartCounted part
+IsCounted (Message.Settled epoch view number places) = length places < 2 ^ 32
+IsCounted (Message.EpochState replica epoch part) = PartCounted part
+IsCounted (Message.StartEpoch epoch shard packets) = length packets < 2 ^ 32
+IsCounted message = ⊤
 
 -- each of the messages that are sent
 abbrev pub SendsFit : List Outgoing → Type 0
