@@ -4,4 +4,3 @@ pub mod Calls
 pub mod Courses
 pub mod Merged
 pub mod Delivered
-pub mod Scripts

@@ -1,4 +1,4 @@
-ghost use Rattle.std.specs.Prelude.{◌≡◌, ◌≤◌, ℕ, suc, true, Some, None, Ok, List, slice_get, IsTrue};
+ghost use Rattle.std.specs.Prelude.{◌≡◌, ◌≤◌, ℕ, suc, true, Some, None, List, slice_get};
 ghost use Rattle.eris_base.specs.declared.ids.ClientId.{ClientId};
 ghost use Rattle.eris_base.specs.declared.ids.Node.{Node};
 ghost use Rattle.eris_base.specs.declared.ids.TxnId.{TxnId};
@@ -10,9 +10,6 @@ ghost use Rattle.eris_txn.specs.declared.txn.Txn.{Txn};
 ghost use Rattle.eris_audit.specs.Histories.{first_submit};
 ghost use Rattle.eris_msg.specs.declared.message.Message.{Message};
 ghost use Rattle.eris_script.specs.declared.event.Event.{Event};
-ghost use Rattle.eris_script.specs.declared.line.Line.{Line};
-ghost use Rattle.eris_script.specs.LineForms.{fits_event, line_of};
-ghost use Rattle.eris_script.specs.Scripts.{Script, events_of, script};
 ghost use Rattle.eris_rules.specs.InPlace.{is_in_place_at_client};
 ghost use Rattle.eris_rules.specs.Runs.{run};
 ghost use Rattle.eris_rules.specs.Worlds.{WorldState, client_at};
@@ -21,7 +18,7 @@ ghost use Rattle.eris_epoch_law.specs.Members.{In};
 ghost use Rattle.eris_agreement.specs.WorldMoments.{world_at};
 ghost use Rattle.eris_client_law.specs.Bridges.{IsHistoryWith};
 ghost use Rattle.eris_client_law.specs.ClientRuns.{AbortsOthers, Gets, history_to, moment, step_at};
-ghost use Rattle.eris_course_law.specs.Accepted.{AreEventsFit, IsAccepted, IsEventFit, IsThere};
+ghost use Rattle.eris_course_law.specs.Accepted.{AreEventsFit, IsAccepted, IsThere};
 ghost use Rattle.eris_course_law.specs.Inputs.{identity, inputs_of};
 ghost use Rattle.eris_course_law.specs.Submitted.{HasAsked, IsAmongSent, IsOfClient};
 
@@ -49,13 +46,4 @@ pub fn histories_are_merged()
     ensures new { (config : ConfigValue) (events : List Event) → IsAccepted config events → (client : ClientId) → IsThere config client → (k : ℕ) (id : TxnId) (txn : Txn) → (step_at (identity config client) (inputs_of config events client) k).event ≡ Some (HistoryEvent.Submit id txn) → first_submit (world_at config events k).history id ≡ None }
     ensures well { (config : ConfigValue) (events : List Event) → IsAccepted config events → AreEventsFit events → (k : ℕ) → Each SubmitsWell (world_at config events k).history }
     ensures with_each { (config : ConfigValue) (events : List Event) → IsAccepted config events → AreEventsFit events → (client : ClientId) → IsThere config client → (k : ℕ) → IsHistoryWith (identity config client) (inputs_of config events client) k (world_at config events k).history }
-{}
-
-/// What is asked of events holds of all that a script says: an event in the grammar's ranges submits what can be run, so
-/// the events of each line that is read are fit, and those of a whole script. The call does nothing; its contract is the
-/// law.
-pub fn scripts_are_fit()
-    ensures ranged { (version : ℕ) (event : Event) → IsTrue (fits_event version event) → IsEventFit event }
-    ensures lines { (version : ℕ) (text : List ℕ) (said : Line) → line_of version text ≡ Ok said → AreEventsFit (events_of said) }
-    ensures scripts { (bytes : List ℕ) (whole : Script) → script bytes ≡ Ok whole → AreEventsFit whole.events }
 {}

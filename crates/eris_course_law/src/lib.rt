@@ -4,4 +4,4 @@
 
 mod law;
 
-pub use law::{histories_are_merged, runs_are_courses, scripts_are_fit};
+pub use law::{histories_are_merged, runs_are_courses};

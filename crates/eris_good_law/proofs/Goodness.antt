@@ -18,7 +18,7 @@ use Rattle.eris_order_law.proofs.SettledFronts.{settled_right}
 use Rattle.eris_serial_law.proofs.Rules.{serial_order}
 use Rattle.eris_course_law.specs.Accepted.{AreEventsFit, IsAccepted, IsEventFit}
 use Rattle.eris_course_law.proofs.Calls.{accepted}
-use Rattle.eris_course_law.proofs.Scripts.{script_fits}
+use Rattle.eris_good_law.proofs.Scripts.{script_fits}
 use Rattle.eris_good_law.proofs.Evident.{evidence}
 
 -- at every moment

@@ -1,3 +1,4 @@
+pub mod Scripts
 pub mod Counted
 pub mod Answered
 pub mod Evident

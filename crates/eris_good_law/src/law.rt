@@ -1,15 +1,17 @@
-ghost use Rattle.std.specs.Prelude.{◌≡◌, ℕ, List, ◌++◌, Ok, Some};
+ghost use Rattle.std.specs.Prelude.{◌≡◌, ℕ, List, ◌++◌, Ok, Some, IsTrue};
 ghost use Rattle.eris_base.specs.ConfigLimits.{ConfigValue};
 ghost use Rattle.eris_audit.specs.IsSerial.{IsSerial};
 ghost use Rattle.eris_audit.specs.Lines.{lines_of};
 ghost use Rattle.eris_script.specs.declared.event.Event.{Event};
-ghost use Rattle.eris_script.specs.Scripts.{Script, script};
+ghost use Rattle.eris_script.specs.declared.line.Line.{Line};
+ghost use Rattle.eris_script.specs.LineForms.{fits_event, line_of};
+ghost use Rattle.eris_script.specs.Scripts.{Script, events_of, script};
 ghost use Rattle.eris_rules.specs.Good.{Good};
 ghost use Rattle.eris_rules.specs.Reports.{report_of};
 ghost use Rattle.eris_rules.specs.Runs.{run};
 ghost use Rattle.eris_rules.specs.Worlds.{WorldState};
 ghost use Rattle.eris_agreement.specs.WorldMoments.{world_at};
-ghost use Rattle.eris_course_law.specs.Accepted.{AreEventsFit, IsAccepted};
+ghost use Rattle.eris_course_law.specs.Accepted.{AreEventsFit, IsAccepted, IsEventFit};
 ghost use Rattle.eris_good_law.specs.Evident.{HasEvidence};
 
 /// THE HEADLINE'S LAW. Take any config and any list of events that the run accepts, in which whatever is submitted can be
@@ -29,4 +31,13 @@ pub fn every_run_is_good()
 /// nothing; its contract is the law.
 pub fn runs_have_evidence()
     ensures evidence { (config : ConfigValue) (events : List Event) → IsAccepted config events → AreEventsFit events → (k : ℕ) → HasEvidence config events k }
+{}
+
+/// What is asked of events holds of all that a script says: an event in the grammar's ranges submits what can be run, so
+/// the events of each line that is read are fit, and those of a whole script. The call does nothing; its contract is the
+/// law.
+pub fn scripts_are_fit()
+    ensures ranged { (version : ℕ) (event : Event) → IsTrue (fits_event version event) → IsEventFit event }
+    ensures lines { (version : ℕ) (text : List ℕ) (said : Line) → line_of version text ≡ Ok said → AreEventsFit (events_of said) }
+    ensures scripts { (bytes : List ℕ) (whole : Script) → script bytes ≡ Ok whole → AreEventsFit whole.events }
 {}

@@ -1,5 +1,5 @@
-use Rattle.eris_course_law.proofs.Scripts.{line_fits, ranged_fits, script_fits}
-use Rattle.eris_course_law.proofs.law.scripts_are_fit.Goals as goal
+use Rattle.eris_good_law.proofs.Scripts.{line_fits, ranged_fits, script_fits}
+use Rattle.eris_good_law.proofs.law.scripts_are_fit.Goals as goal
 
 pub returns-clause-ranged : goal.returns-clause-ranged
 returns-clause-ranged c = ranged_fits
