@@ -15,7 +15,6 @@ use Rattle.eris_txn.specs.Bodies.{has_shard, participants_of}
 use Rattle.eris_msg.specs.declared.message.Message.{Message}
 use Rattle.eris_msg.specs.declared.outgoing.Outgoing.{Outgoing}
 use Rattle.eris_script.specs.declared.event.Event.{Event}
-use Rattle.eris_script.specs.LineForms.{fits_event}
 use Rattle.eris_rules.specs.declared.transaction.Course.{Course}
 use Rattle.eris_rules.specs.declared.transaction.Transaction.{Transaction}
 use Rattle.eris_rules.specs.Addressees.{replica_count}
@@ -29,7 +28,7 @@ use Rattle.eris_undisturbed_law.specs.Undisturbed.{AreAnswered, IsAnswered, IsUn
 use Rattle.eris_undisturbed_law.proofs.Calm.{Coming, Done, Down, Heard, IsCalm, IsCalmWorld, IsOpen, Job, Open, Progress, Said, Spread, Stage, Submitted, Unstamped, Way, shards_of_ops, weigh, weight}
 use Rattle.eris_undisturbed_law.proofs.Growing.{run_grows}
 use Rattle.eris_undisturbed_law.proofs.Majorities.{is_down}
-use Rattle.eris_undisturbed_law.proofs.Running.{flows_calm, run_calm, run_parts}
+use Rattle.eris_undisturbed_law.proofs.Running.{flows_calm, run_calm, run_parts, submissions_stand}
 use Rattle.eris_undisturbed_law.proofs.Starting.{calm_start}
 use Rattle.eris_undisturbed_law.proofs.Voting.{HasVote, all_pass, majority_counts}
 
@@ -79,30 +78,37 @@ module _ (config : ConfigValue) (limits : ShardId → ℕ) (few : (shard : Shard
   pub all_answered : IsCalm config limits 0 world → AreAnswered world.history world.history
   all_answered (done, rest, calm) = record { at = each_answered done (none_rest done rest calm) }
 
-front_fits : (version : ℕ) (front : List Event) (count : ℕ) → list_all (fits_event version) (front ++ replicate count Event.Flow) ≡ true → list_all (fits_event version) front ≡ true
-front_fits version [] count h = refl
-front_fits version (event ∷ front) count h = and_from _ _ (and_parts _ _ h).0 (front_fits version front count (and_parts _ _ h).1)
-
 -- A SCRIPT THAT NOTHING DISTURBS ANSWERS each transaction that it submits
-pub undisturbed_answers : (config : ConfigValue) (version : ℕ) (events : List Event) (world : WorldState) → list_all (fits_event version) events ≡ true → IsUndisturbed config events → run config events ≡ Some world
+pub undisturbed_answers : (config : ConfigValue) (events : List Event) (world : WorldState) → IsUndisturbed config events → run config events ≡ Some world
     → AreAnswered world.history world.history
 unfolding run
-undisturbed_answers config version events world fits is h =
+undisturbed_answers config events world is h =
     let parts = run_parts config (Some (first_world config)) is.front (replicate is.flows Event.Flow) world (ap (λ (list : List Event). run_from config (Some (first_world config)) list) (sym is.are) ∙ h) in
-    let fronts = front_fits version is.front is.flows (ap (λ (list : List Event). list_all (fits_event version) list) (sym is.are) ∙ fits) in
-    let middle = run_calm config version (λ shard. 0) 0 (first_world config) is.front parts.0 is.calm fronts parts.1 (calm_start config) in
-    let last = flows_calm config version (λ shard. 0 + crashes shard is.front) (0 + packets_for_all config is.front) parts.0 is.flows world parts.2 middle in
+    let middle = run_calm config (λ shard. 0) 0 (first_world config) is.front parts.0 is.calm parts.1 (calm_start config) in
+    let last = flows_calm config (λ shard. 0 + crashes shard is.front) (0 + packets_for_all config is.front) parts.0 is.flows world parts.2 middle in
     let none : (0 + packets_for_all config is.front) - is.flows ≡ 0 = omega (arith, is.enough) in
     all_answered config (λ shard. 0 + crashes shard is.front) (λ shard. (let most = is.few shard in omega (arith, most))) world
     (subst (λ (budget : ℕ). IsCalm config (λ shard. 0 + crashes shard is.front) budget world) none last)
 
 -- and whatever comes after, these are still answered
-pub first_answers : (config : ConfigValue) (version : ℕ) (events more : List Event) (middle world : WorldState) → list_all (fits_event version) events ≡ true → IsUndisturbed config events → run config events ≡ Some middle
+pub first_answers : (config : ConfigValue) (events more : List Event) (middle world : WorldState) → IsUndisturbed config events → run config events ≡ Some middle
     → run config (events ++ more) ≡ Some world → AreAnswered middle.history world.history
 unfolding run
-first_answers config version events more middle world fits is h k =
+first_answers config events more middle world is h k =
     let parts = run_parts config (Some (first_world config)) events more world k in
     let both : Some parts.0 ≡ Some middle = sym parts.1 ∙ h in
     let same : parts.0 ≡ middle = cc in
-    let answered = undisturbed_answers config version events middle fits is h in
+    let answered = undisturbed_answers config events middle is h in
     record { at = λ id txn i. (let now = answered.at id txn i in (now.0, run_grows config middle more world (subst (λ (w : WorldState). run_from config (Some w) more ≡ Some world) same parts.2) _ now.1)) }
+
+-- and each submission of its events stands in the history
+pub submissions_there : (config : ConfigValue) (events : List Event) (world : WorldState) → IsUndisturbed config events → run config events ≡ Some world
+    → (client : ClientId) (ops : List Op) → In (Event.Submit client ops) events → (id : TxnId) × (id.client ≡ client) × In (HistoryEvent.Submit id (Txn.Whole ops)) world.history
+unfolding run
+submissions_there config events world is h client ops i =
+    submissions_stand config (λ shard. 0) 0 (first_world config) events world (ap (λ (list : List Event). list_all is_calm list) is.are ∙ all_calm is.front is.flows is.calm) h (calm_start config) client ops i
+  where
+    all_calm : (front : List Event) (count : ℕ) → list_all is_calm front ≡ true → list_all is_calm (front ++ replicate count Event.Flow) ≡ true
+    all_calm [] zero calm = refl
+    all_calm [] (suc count) calm = all_calm [] count refl
+    all_calm (event ∷ front) count calm = and_from _ _ (and_parts _ _ calm).0 (all_calm front count (and_parts _ _ calm).1)

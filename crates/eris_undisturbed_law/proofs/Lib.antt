@@ -17,3 +17,4 @@ pub mod Growing
 pub mod Starting
 pub mod Running
 pub mod Answered
+pub mod Lines

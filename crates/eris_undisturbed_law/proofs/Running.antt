@@ -15,9 +15,12 @@ use Rattle.eris_txn.specs.declared.txn.Txn.{Txn}
 use Rattle.eris_txn.specs.Operations.{key_of}
 use Rattle.eris_msg.specs.declared.outgoing.Outgoing.{Outgoing}
 use Rattle.eris_script.specs.declared.event.Event.{Event}
-use Rattle.eris_script.specs.LineForms.{fits_event}
 use Rattle.eris_rules.specs.declared.refusal.Refusal.{Refusal}
-use Rattle.eris_rules.specs.Clients.{submit}
+use Rattle.eris_rules.specs.ClientStates.{next_id}
+use Rattle.eris_rules.specs.Clients.{begins_half, submit}
+use Rattle.eris_epoch_law.specs.Members.{In}
+use Rattle.eris_epoch_law.proofs.Members.{In-right}
+use Rattle.eris_undisturbed_law.proofs.Growing.{run_grows}
 use Rattle.eris_rules.specs.Happenings.{after_client, happens}
 use Rattle.eris_rules.specs.Refusals.{cause, frame_sizes, limit_met, refusal, submit_cause}
 use Rattle.eris_rules.specs.Runs.{run, run_from, taken_by, world_after}
@@ -51,11 +54,7 @@ accepted config world after event h = by_cause (cause config world event) refl (
     by_cause None e (Some met) m k = absurd (cc)
     by_cause (Some why) e met m k = absurd (cc)
 
--- a submission has an operation
-some_ops : (version : ℕ) (client : ClientId) (ops : List Op) → fits_event version (Event.Submit client ops) ≡ true → 0 < length ops
-some_ops version client ops h = ltb-true 0 (length ops) (and_parts _ _ (and_parts _ _ (and_parts _ _ h).1).0).0
-
-module _ (config : ConfigValue) (version : ℕ) where
+module _ (config : ConfigValue) where
   weaker : (limits more : ShardId → ℕ) (budget greater : ℕ) (world : WorldState) → ((shard : ShardId) → limits shard ≤ more shard) → budget ≤ greater → IsCalm config limits budget world → IsCalm config more greater world
   weaker limits more budget greater world up high (done, rest, calm) = (done, rest, record {
     queue = calm.queue;
@@ -74,11 +73,11 @@ module _ (config : ConfigValue) (version : ℕ) where
     jobs = calm.jobs;
   })
 
-  submit_calm : (limits : ShardId → ℕ) (budget : ℕ) (world : WorldState) (client : ClientId) (ops : List Op) → fits_event version (Event.Submit client ops) ≡ true → IsAccepted config world (Event.Submit client ops)
+  submit_calm : (limits : ShardId → ℕ) (budget : ℕ) (world : WorldState) (client : ClientId) (ops : List Op) → is_calm (Event.Submit client ops) ≡ true → IsAccepted config world (Event.Submit client ops)
       → IsCalm config limits budget world → IsCalm config limits (budget + packets_for config (Event.Submit client ops)) (happens config world (Event.Submit client ops))
   unfolding happens cause after_client with_sends
   submit_calm limits budget world client ops fits is (done, rest, calm) =
-      let some = some_ops version client ops fits in
+      let some = ltb-true 0 (length ops) fits in
       let same = takes_submission config limits budget world done rest client ops some is.no_cause calm in
       subst (λ (w : WorldState). IsCalm config limits (budget + packets_for config (Event.Submit client ops)) w) (sym same)
       (done, _, calm_submitted config limits budget world done rest client ops some is.no_cause calm (subst (λ (w : WorldState). length w.sent ≤ 262144) same is.few))
@@ -91,14 +90,14 @@ module _ (config : ConfigValue) (version : ℕ) where
       (done, rest, calm_crashed config limits budget world done rest shard replica not_first calm)
 
   -- ONE EVENT
-  event_calm : (limits : ShardId → ℕ) (budget : ℕ) (world : WorldState) (event : Event) → is_calm event ≡ true → fits_event version event ≡ true → IsAccepted config world event → IsCalm config limits budget world
+  event_calm : (limits : ShardId → ℕ) (budget : ℕ) (world : WorldState) (event : Event) → is_calm event ≡ true → IsAccepted config world event → IsCalm config limits budget world
       → IsCalm config (λ shard. limits shard + one_if (crashes_on shard event)) (budget + packets_for config event) (happens config world event)
-  event_calm limits budget world (Event.Submit client ops) calm fits is now =
-      weaker limits (λ shard. limits shard + 0) _ _ (happens config world (Event.Submit client ops)) (λ shard. omega arith) (omega arith) (submit_calm limits budget world client ops fits is now)
-  event_calm limits budget world Event.Flow calm fits is now =
+  event_calm limits budget world (Event.Submit client ops) calm is now =
+      weaker limits (λ shard. limits shard + 0) _ _ (happens config world (Event.Submit client ops)) (λ shard. omega arith) (omega arith) (submit_calm limits budget world client ops calm is now)
+  event_calm limits budget world Event.Flow calm is now =
       weaker limits (λ shard. limits shard + 0) (budget - 1) (budget + 0) (happens config world Event.Flow) (λ shard. omega arith) (omega arith) (calm_flow config limits budget world now is.few)
-  event_calm limits budget world (Event.Crash shard replica) calm fits is now = crash_calm limits budget world shard replica calm now
-  event_calm limits budget world event calm fits is now = absurd (cc)
+  event_calm limits budget world (Event.Crash shard replica) calm is now = crash_calm limits budget world shard replica calm now
+  event_calm limits budget world event calm is now = absurd (cc)
 
   count_one : (b : Bool) (event : Event) (rest : List Event) → one_if b + length rest ≡ length (cond b (event ∷ rest) rest)
   count_one true event rest = omega arith
@@ -109,15 +108,15 @@ module _ (config : ConfigValue) (version : ℕ) where
   none_run events last h = absurd (cc)
 
   -- EVENTS, one after another
-  pub run_calm : (limits : ShardId → ℕ) (budget : ℕ) (world : WorldState) (events : List Event) (last : WorldState) → list_all is_calm events ≡ true → list_all (fits_event version) events ≡ true
+  pub run_calm : (limits : ShardId → ℕ) (budget : ℕ) (world : WorldState) (events : List Event) (last : WorldState) → list_all is_calm events ≡ true
       → run_from config (Some world) events ≡ Some last → IsCalm config limits budget world → IsCalm config (λ shard. limits shard + crashes shard events) (budget + packets_for_all config events) last
   unfolding run_from
-  run_calm limits budget world [] last calm fits h now =
+  run_calm limits budget world [] last calm h now =
       let same : world ≡ last = cc in
       weaker limits (λ shard. limits shard + 0) budget (budget + 0) last (λ shard. omega arith) (omega arith) (subst (IsCalm config limits budget) same now)
-  run_calm limits budget world (event ∷ events) last calm fits h now =
+  run_calm limits budget world (event ∷ events) last calm h now =
       by_next (world_after config world event) refl h
-      (λ next k is. run_calm (λ shard. limits shard + one_if (crashes_on shard event)) (budget + packets_for config event) next events last (and_parts _ _ calm).1 (and_parts _ _ fits).1 k is)
+      (λ next k is. run_calm (λ shard. limits shard + one_if (crashes_on shard event)) (budget + packets_for config event) next events last (and_parts _ _ calm).1 k is)
     where
       by_next : (next : Option WorldState) → world_after config world event ≡ next → run_from config next events ≡ Some last
           → ((next : WorldState) → run_from config (Some next) events ≡ Some last → IsCalm config (λ shard. limits shard + one_if (crashes_on shard event)) (budget + packets_for config event) next
@@ -126,7 +125,7 @@ module _ (config : ConfigValue) (version : ℕ) where
       by_next None e k rest = absurd (none_run events last k)
       by_next (Some next) e k rest =
           let is = accepted config world next event e in
-          let after = subst (IsCalm config (λ shard. limits shard + one_if (crashes_on shard event)) (budget + packets_for config event)) (taken config world next event e) (event_calm limits budget world event (and_parts _ _ calm).0 (and_parts _ _ fits).0 is now) in
+          let after = subst (IsCalm config (λ shard. limits shard + one_if (crashes_on shard event)) (budget + packets_for config event)) (taken config world next event e) (event_calm limits budget world event (and_parts _ _ calm).0 is now) in
           weaker (λ shard. (limits shard + one_if (crashes_on shard event)) + crashes shard events) (λ shard. limits shard + crashes shard (event ∷ events)) _ _ last
           (λ shard. (let one = count_one (crashes_on shard event) event (filter (crashes_on shard) events) in omega (arith, one))) (omega arith) (rest next k after)
 
@@ -144,6 +143,46 @@ module _ (config : ConfigValue) (version : ℕ) where
           let is = accepted config world next Event.Flow e in
           let after = subst (IsCalm config limits (budget - 1)) (taken config world next Event.Flow e) (calm_flow config limits budget world now is.few) in
           weaker limits limits _ _ last (λ shard. omega arith) (omega arith) (rest next k after)
+
+  -- ---- what the history has of it
+  is_submitted : (limits : ShardId → ℕ) (budget : ℕ) (world : WorldState) (client : ClientId) (ops : List Op) → is_calm (Event.Submit client ops) ≡ true → IsAccepted config world (Event.Submit client ops) → IsCalm config limits budget world
+      → (id : TxnId) × (id.client ≡ client) × Submitted (happens config world (Event.Submit client ops)).history id ops
+  unfolding happens cause after_client with_sends submit begins_half
+  is_submitted limits budget world client ops calm is (done, rest, now) =
+      let some = ltb-true 0 (length ops) calm in
+      let same = takes_submission config limits budget world done rest client ops some is.no_cause now in
+      let at = client_is config limits budget world done rest client ops some is.no_cause now in
+      let id = next_id (record { config = config; client = client }) at.0 in
+      (id, refl, subst (λ (w : WorldState). Submitted w.history id ops) (sym same) (In-right (HistoryEvent.Submit id (Txn.Whole ops)) world.history (HistoryEvent.Submit id (Txn.Whole ops) ∷ []) (inl refl)))
+
+  event_submits : (limits : ShardId → ℕ) (budget : ℕ) (world : WorldState) (client : ClientId) (ops : List Op) (event : Event) → Event.Submit client ops ≡ event → is_calm event ≡ true → IsAccepted config world event → IsCalm config limits budget world
+      → (id : TxnId) × (id.client ≡ client) × Submitted (happens config world event).history id ops
+  event_submits limits budget world client ops event same =
+      subst (λ (e : Event). is_calm e ≡ true → IsAccepted config world e → IsCalm config limits budget world → (id : TxnId) × (id.client ≡ client) × Submitted (happens config world e).history id ops) same
+      (λ calm is now. is_submitted limits budget world client ops calm is now)
+
+  -- EACH SUBMISSION stands in the history
+  pub submissions_stand : (limits : ShardId → ℕ) (budget : ℕ) (world : WorldState) (events : List Event) (last : WorldState) → list_all is_calm events ≡ true → run_from config (Some world) events ≡ Some last → IsCalm config limits budget world
+      → (client : ClientId) (ops : List Op) → In (Event.Submit client ops) events → (id : TxnId) × (id.client ≡ client) × Submitted last.history id ops
+  unfolding run_from
+  submissions_stand limits budget world [] last calm h now client ops i = absurd i
+  submissions_stand limits budget world (event ∷ events) last calm h now client ops i =
+      by_next (world_after config world event) refl h i
+      (λ next k is later. submissions_stand (λ shard. limits shard + one_if (crashes_on shard event)) (budget + packets_for config event) next events last (and_parts _ _ calm).1 k is client ops later)
+    where
+      by_next : (next : Option WorldState) → world_after config world event ≡ next → run_from config next events ≡ Some last → (Event.Submit client ops ≡ event) ⊎ In (Event.Submit client ops) events
+          → ((next : WorldState) → run_from config (Some next) events ≡ Some last → IsCalm config (λ shard. limits shard + one_if (crashes_on shard event)) (budget + packets_for config event) next
+          → In (Event.Submit client ops) events → (id : TxnId) × (id.client ≡ client) × Submitted last.history id ops)
+          → (id : TxnId) × (id.client ≡ client) × Submitted last.history id ops
+      by_next None e k j rest = absurd (none_run events last k)
+      by_next (Some next) e k (inl same) rest =
+          let here = event_submits limits budget world client ops event same (and_parts _ _ calm).0 (accepted config world next event e) now in
+          let then_on = run_grows config next events last k in
+          (here.0, here.1, then_on _ (subst (λ (w : WorldState). Submitted w.history here.0 ops) (taken config world next event e) here.2))
+      by_next (Some next) e k (inr later) rest =
+          let is = accepted config world next event e in
+          let after = subst (IsCalm config (λ shard. limits shard + one_if (crashes_on shard event)) (budget + packets_for config event)) (taken config world next event e) (event_calm limits budget world event (and_parts _ _ calm).0 is now) in
+          rest next k after later
 
 -- a run of two lists, one after the other
 pub run_parts : (config : ConfigValue) (start : Option WorldState) (front back : List Event) (last : WorldState) → run_from config start (front ++ back) ≡ Some last

@@ -13,15 +13,17 @@ use Rattle.eris_txn.specs.declared.txn.Txn.{Txn}
 use Rattle.eris_txn.specs.Bodies.{participants_of}
 use Rattle.eris_script.specs.declared.event.Event.{Event}
 use Rattle.eris_script.specs.declared.line.Line.{Line}
+use Rattle.eris_script.specs.Cuts.{lines}
+use Rattle.eris_script.specs.Headers.{header_of}
 use Rattle.eris_script.specs.LineForms.{line_of}
 use Rattle.eris_script.specs.Scripts.{events_of}
 use Rattle.eris_rules.specs.Addressees.{replica_count}
 use Rattle.eris_epoch_law.specs.Members.{In}
 
--- a submission of a whole transaction, a delivery of the lowest waiting packet, or the crash of a replica that isn't
--- its shard's first
+-- a submission of a whole transaction, which has an operation, as in every line of a script; a delivery of the lowest
+-- waiting packet; or the crash of a replica that isn't its shard's first
 abbrev pub is_calm : Event → Bool
-is_calm (Event.Submit client ops) = true
+is_calm (Event.Submit client ops) = nat_lt 0 (length ops)
 is_calm Event.Flow = true
 is_calm (Event.Crash shard replica) = nat_lt 0 replica.0
 is_calm event = false
@@ -85,3 +87,12 @@ Say version [] [] = ⊤
 Say version [] (said ∷ lines) = ⊥
 Say version (text ∷ texts) [] = ⊥
 Say version (text ∷ texts) (said ∷ lines) = (line_of version text ≡ Ok said) × Say version texts lines
+
+-- THE BYTES OF A SCRIPT: a header of this config, and texts that say these lines
+pub record IsText (bytes : List ℕ) (config : ConfigValue) (said : List Line) : Type 0 where
+  pub first : List ℕ
+  pub texts : List (List ℕ)
+  pub version : ℕ
+  pub cut : lines bytes ≡ first ∷ texts
+  pub headed : header_of first ≡ Ok (record { version = version; config = config })
+  pub says : Say version texts said

@@ -1,2 +1,29 @@
-/// Nothing yet.
-pub fn undisturbed_scripts_answer() {}
+ghost use Rattle.std.specs.Prelude.{◌≡◌, ℕ, Option, Some, Ok, List, ◌++◌};
+ghost use Rattle.std.specs.List.{flat_map};
+ghost use Rattle.eris_base.specs.declared.ids.ClientId.{ClientId};
+ghost use Rattle.eris_base.specs.declared.ids.TxnId.{TxnId};
+ghost use Rattle.eris_base.specs.ConfigLimits.{ConfigValue};
+ghost use Rattle.eris_txn.specs.declared.history.HistoryEvent.{HistoryEvent};
+ghost use Rattle.eris_txn.specs.declared.op.Op.{Op};
+ghost use Rattle.eris_txn.specs.declared.txn.Txn.{Txn};
+ghost use Rattle.eris_script.specs.declared.event.Event.{Event};
+ghost use Rattle.eris_script.specs.declared.line.Line.{Line};
+ghost use Rattle.eris_script.specs.Scripts.{events_of, script};
+ghost use Rattle.eris_rules.specs.Runs.{run};
+ghost use Rattle.eris_rules.specs.Worlds.{WorldState};
+ghost use Rattle.eris_epoch_law.specs.Members.{In};
+ghost use Rattle.eris_undisturbed_law.specs.Undisturbed.{AreAnswered, AreUndisturbed, IsText, IsUndisturbed};
+
+/// An undisturbed script answers each transaction that it submits: every packet is delivered once, in the order of
+/// sending; no timer runs; at most f replicas of each shard crash, and never its first; and at the end as many packets
+/// are delivered as the submissions can cause. So do the first events of any script, where these are undisturbed: their
+/// transactions are still answered at its end, whatever comes behind them. The same is said of a script's bytes, by
+/// what its lines say. The call does nothing; its contract is the law.
+pub fn undisturbed_scripts_answer()
+    ensures answers { (config : ConfigValue) (events : List Event) (world : WorldState) → IsUndisturbed config events → run config events ≡ Some world → AreAnswered world.history world.history }
+    ensures first { (config : ConfigValue) (events more : List Event) (middle world : WorldState) → IsUndisturbed config events → run config events ≡ Some middle → run config (events ++ more) ≡ Some world → AreAnswered middle.history world.history }
+    ensures submitted { (config : ConfigValue) (events : List Event) (world : WorldState) → IsUndisturbed config events → run config events ≡ Some world → (client : ClientId) (ops : List Op) → In (Event.Submit client ops) events → (id : TxnId) × (id.client ≡ client) × In (HistoryEvent.Submit id (Txn.Whole ops)) world.history }
+    ensures lines { (config : ConfigValue) (said : List Line) → AreUndisturbed config said → IsUndisturbed config (flat_map events_of said) }
+    ensures text { (bytes : List ℕ) (config : ConfigValue) (said : List Line) (events : List Event) (world : WorldState) → IsText bytes config said → AreUndisturbed config said → script bytes ≡ Ok (record { config = config; events = events }) → run config events ≡ Some world → AreAnswered world.history world.history }
+    ensures first_lines { (bytes : List ℕ) (config : ConfigValue) (said more : List Line) (events : List Event) (middle world : WorldState) → IsText bytes config (said ++ more) → AreUndisturbed config said → script bytes ≡ Ok (record { config = config; events = events }) → run config (flat_map events_of said) ≡ Some middle → run config events ≡ Some world → AreAnswered middle.history world.history }
+{}

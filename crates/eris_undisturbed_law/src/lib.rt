@@ -1,4 +1,5 @@
-//! The law of undisturbed scripts: each transaction that such a script submits is answered.
+//! The law of undisturbed scripts: each transaction that such a script submits is answered. It stands on the rules of
+//! whole runs.
 #![tactic(auto)]
 
 mod law;

@@ -1,0 +1,109 @@
+-- FROM THE LINES OF A SCRIPT TO ITS EVENTS: the lines of an undisturbed script say an undisturbed list of events.
+use Rattle.std.proofs.Common.{◌≡◌, ◌≤◌, ◌+◌, ℕ, zero, suc, Bool, true, false, cond, ◌&&◌, nat_lt, Option, Some, None, Result, Ok, Err, List, [], ◌∷◌, ◌++◌, length, replicate, refl, ap, sym, ◌∙◌, subst, arith, append_assoc, append-nil}
+use Rattle.std.proofs.lemmas.Bool.{and_from, and_parts}
+use Rattle.std.specs.List.{flat_map, list_all}
+use Rattle.eris_base.specs.ConfigLimits.{ConfigValue}
+use Rattle.eris_txn.specs.declared.history.HistoryEvent.{HistoryEvent}
+use Rattle.eris_script.specs.declared.event.Event.{Event}
+use Rattle.eris_script.specs.declared.header.Header.{Header}
+use Rattle.eris_script.specs.declared.line.Line.{Line}
+use Rattle.eris_script.specs.declared.reason.Reason.{Reason}
+use Rattle.eris_script.specs.Cuts.{lines}
+use Rattle.eris_script.specs.Headers.{header_of}
+use Rattle.eris_script.specs.LineForms.{line_of}
+use Rattle.eris_script.specs.Scripts.{BadLine, Script, events_from, events_of, script, script_in, with_config, with_events}
+use Rattle.eris_rules.specs.Runs.{run}
+use Rattle.eris_rules.specs.Worlds.{WorldState}
+use Rattle.eris_undisturbed_law.specs.Undisturbed.{AreAnswered, AreUndisturbed, IsText, IsUndisturbed, Say, is_calm, is_calm_line}
+use Rattle.eris_undisturbed_law.proofs.Answered.{first_answers, undisturbed_answers}
+
+-- ---- events of lines
+abbrev said_events : List Line → List Event
+said_events said = flat_map events_of said
+
+events-append : (some more : List Line) → said_events (some ++ more) ≡ said_events some ++ said_events more
+events-append [] more = refl
+events-append (line ∷ some) more = ap (λ (rest : List Event). events_of line ++ rest) (events-append some more) ∙ sym (append_assoc (events_of line) (said_events some) (said_events more))
+
+none_said : (count : ℕ) → said_events (replicate count Line.Skip) ≡ []
+none_said zero = refl
+none_said (suc count) = none_said count
+
+all-append : (some more : List Event) → list_all is_calm some ≡ true → list_all is_calm more ≡ true → list_all is_calm (some ++ more) ≡ true
+all-append [] more h k = k
+all-append (event ∷ some) more h k = and_from _ _ (and_parts _ _ h).0 (all-append some more (and_parts _ _ h).1 k)
+
+calm_flows : (count : ℕ) → list_all is_calm (replicate count Event.Flow) ≡ true
+calm_flows zero = refl
+calm_flows (suc count) = calm_flows count
+
+calm_said : (line : Line) → is_calm_line line ≡ true → list_all is_calm (events_of line) ≡ true
+calm_said Line.Skip h = refl
+calm_said (Line.One event) h = and_from _ _ h refl
+calm_said (Line.Flow times) h = calm_flows times
+calm_said (Line.Lose times) h = absurd (cc)
+
+all_calm : (said : List Line) → list_all is_calm_line said ≡ true → list_all is_calm (said_events said) ≡ true
+all_calm [] h = refl
+all_calm (line ∷ said) h = all-append (events_of line) (said_events said) (calm_said line (and_parts _ _ h).0) (all_calm said (and_parts _ _ h).1)
+
+-- THE LINES of an undisturbed script say such events
+pub undisturbed_lines : (config : ConfigValue) (said : List Line) → AreUndisturbed config said → IsUndisturbed config (said_events said)
+undisturbed_lines config said are = record {
+  front = said_events are.front;
+  flows = are.flows;
+  are =
+      ap said_events are.are
+      ∙ events-append are.front (Line.Flow are.flows ∷ replicate are.skipped Line.Skip)
+      ∙ ap (λ (rest : List Event). said_events are.front ++ (replicate are.flows Event.Flow ++ rest)) (none_said are.skipped)
+      ∙ ap (λ (rest : List Event). said_events are.front ++ rest) (append-nil (replicate are.flows Event.Flow));
+  calm = all_calm are.front are.calm;
+  few = are.few;
+  enough = are.enough;
+}
+
+-- ---- the events of a script are those of its lines
+read_events : (version number : ℕ) (texts : List (List ℕ)) (said : List Line) → Say version texts said → events_from version number texts ≡ Ok (said_events said)
+unfolding events_from
+read_events version number [] [] says = refl
+read_events version number [] (line ∷ said) says = absurd says
+read_events version number (text ∷ texts) [] says = absurd says
+read_events version number (text ∷ texts) (line ∷ said) says =
+    by_line (line_of version text) says.0 (read_events version (number + 1) texts said says.1)
+  where
+    by_line : (read : Result Line Reason) → read ≡ Ok line → events_from version (number + 1) texts ≡ Ok (said_events said)
+        → ◌≡◌ {A = Result (List Event) BadLine} (elim read [ | Ok one ↦ with_events (events_of one) (events_from version (number + 1) texts) | Err why ↦ Err (record { line = number; reason = why }) ]) (Ok (events_of line ++ said_events said))
+    by_line (Ok one) is rest = let same : one ≡ line = cc in ap (λ (l : Line). with_events (events_of l) (events_from version (number + 1) texts)) same ∙ ap (with_events (events_of line)) rest
+    by_line (Err why) is rest = absurd (cc)
+
+read_script : (bytes : List ℕ) (config : ConfigValue) (said : List Line) → IsText bytes config said → script bytes ≡ Ok (record { config = config; events = said_events said })
+unfolding script
+read_script bytes config said is =
+    ap script_in is.cut ∙ by_header (header_of is.first) is.headed
+  where
+    by_header : (read : Result Header Reason) → read ≡ Ok (record { version = is.version; config = config })
+        → ◌≡◌ {A = Result Script BadLine} (elim read [ | Ok header ↦ with_config header.config (events_from header.version 2 is.texts) | Err why ↦ Err (record { line = 1; reason = why }) ]) (Ok (record { config = config; events = said_events said }))
+    by_header (Ok header) h =
+        let same : header ≡ record { version = is.version; config = config } = cc in
+        ap (λ (one : Header). with_config one.config (events_from one.version 2 is.texts)) same ∙ ap (with_config config) (read_events is.version 2 is.texts said is.says)
+    by_header (Err why) h = absurd (cc)
+
+same_events : (bytes : List ℕ) (config : ConfigValue) (said : List Line) (events : List Event) → IsText bytes config said → script bytes ≡ Ok (record { config = config; events = events }) → events ≡ said_events said
+same_events bytes config said events is read =
+    let both : ◌≡◌ {A = Result Script BadLine} (Ok (record { config = config; events = events })) (Ok (record { config = config; events = said_events said })) = sym read ∙ read_script bytes config said is in
+    let scripts : ◌≡◌ {A = Script} (record { config = config; events = events }) (record { config = config; events = said_events said }) = cc in
+    ap (λ (s : Script). s.events) scripts
+
+-- AN UNDISTURBED SCRIPT, read from its bytes, answers each transaction that it submits
+pub text_answers : (bytes : List ℕ) (config : ConfigValue) (said : List Line) (events : List Event) (world : WorldState) → IsText bytes config said → AreUndisturbed config said
+    → script bytes ≡ Ok (record { config = config; events = events }) → run config events ≡ Some world → AreAnswered world.history world.history
+text_answers bytes config said events world is are read h =
+    let same = same_events bytes config said events is read in
+    undisturbed_answers config events world (subst (IsUndisturbed config) (sym same) (undisturbed_lines config said are)) h
+
+-- and any script answers the transactions of its first lines, where these are undisturbed
+pub first_lines_answer : (bytes : List ℕ) (config : ConfigValue) (first more : List Line) (events : List Event) (middle world : WorldState) → IsText bytes config (first ++ more) → AreUndisturbed config first
+    → script bytes ≡ Ok (record { config = config; events = events }) → run config (flat_map events_of first) ≡ Some middle → run config events ≡ Some world → AreAnswered middle.history world.history
+first_lines_answer bytes config first more events middle world is are read h k =
+    let same = same_events bytes config (first ++ more) events is read ∙ events-append first more in
+    first_answers config (said_events first) (said_events more) middle world (undisturbed_lines config first are) h (ap (λ (list : List Event). run config list) (sym same) ∙ k)
