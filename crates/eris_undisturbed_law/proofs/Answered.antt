@@ -91,15 +91,13 @@ undisturbed_answers config events world is h =
     (subst (λ (budget : ℕ). IsCalm config (λ shard. 0 + crashes shard is.front) budget world) none last)
 
 -- and whatever comes after, these are still answered
-pub first_answers : (config : ConfigValue) (events more : List Event) (middle world : WorldState) → IsUndisturbed config events → run config events ≡ Some middle
-    → run config (events ++ more) ≡ Some world → AreAnswered middle.history world.history
+pub first_answers : (config : ConfigValue) (events more : List Event) (world : WorldState) → IsUndisturbed config events → run config (events ++ more) ≡ Some world
+    → (middle : WorldState) × (run config events ≡ Some middle) × AreAnswered middle.history world.history
 unfolding run
-first_answers config events more middle world is h k =
-    let parts = run_parts config (Some (first_world config)) events more world k in
-    let both : Some parts.0 ≡ Some middle = sym parts.1 ∙ h in
-    let same : parts.0 ≡ middle = cc in
-    let answered = undisturbed_answers config events middle is h in
-    record { at = λ id txn i. (let now = answered.at id txn i in (now.0, run_grows config middle more world (subst (λ (w : WorldState). run_from config (Some w) more ≡ Some world) same parts.2) _ now.1)) }
+first_answers config events more world is h =
+    let parts = run_parts config (Some (first_world config)) events more world h in
+    let answered = undisturbed_answers config events parts.0 is parts.1 in
+    (parts.0, parts.1, record { at = λ id txn i. (let now = answered.at id txn i in (now.0, run_grows config parts.0 more world parts.2 _ now.1)) })
 
 -- and each submission of its events stands in the history
 pub submissions_there : (config : ConfigValue) (events : List Event) (world : WorldState) → IsUndisturbed config events → run config events ≡ Some world

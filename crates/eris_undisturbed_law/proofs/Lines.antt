@@ -102,8 +102,9 @@ text_answers bytes config said events world is are read h =
     undisturbed_answers config events world (subst (IsUndisturbed config) (sym same) (undisturbed_lines config said are)) h
 
 -- and any script answers the transactions of its first lines, where these are undisturbed
-pub first_lines_answer : (bytes : List ℕ) (config : ConfigValue) (first more : List Line) (events : List Event) (middle world : WorldState) → IsText bytes config (first ++ more) → AreUndisturbed config first
-    → script bytes ≡ Ok (record { config = config; events = events }) → run config (flat_map events_of first) ≡ Some middle → run config events ≡ Some world → AreAnswered middle.history world.history
-first_lines_answer bytes config first more events middle world is are read h k =
+pub first_lines_answer : (bytes : List ℕ) (config : ConfigValue) (first more : List Line) (events : List Event) (world : WorldState) → IsText bytes config (first ++ more) → AreUndisturbed config first
+    → script bytes ≡ Ok (record { config = config; events = events }) → run config events ≡ Some world
+    → (middle : WorldState) × (run config (flat_map events_of first) ≡ Some middle) × AreAnswered middle.history world.history
+first_lines_answer bytes config first more events world is are read h =
     let same = same_events bytes config (first ++ more) events is read ∙ events-append first more in
-    first_answers config (said_events first) (said_events more) middle world (undisturbed_lines config first are) h (ap (λ (list : List Event). run config list) (sym same) ∙ k)
+    first_answers config (said_events first) (said_events more) world (undisturbed_lines config first are) (ap (λ (list : List Event). run config list) (sym same) ∙ h)
