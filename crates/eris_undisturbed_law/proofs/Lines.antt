@@ -14,7 +14,7 @@ use Rattle.eris_script.specs.LineForms.{line_of}
 use Rattle.eris_script.specs.Scripts.{BadLine, Script, events_from, events_of, script, script_in, with_config, with_events}
 use Rattle.eris_rules.specs.Runs.{run}
 use Rattle.eris_rules.specs.Worlds.{WorldState}
-use Rattle.eris_undisturbed_law.specs.Undisturbed.{AreAnswered, AreUndisturbed, IsText, IsUndisturbed, Say, is_calm, is_calm_line}
+use Rattle.eris_undisturbed_law.specs.Undisturbed.{AreAnswered, AreUndisturbed, BeginsUndisturbed, IsText, IsUndisturbed, IsUndisturbedScript, Say, is_calm, is_calm_line}
 use Rattle.eris_undisturbed_law.proofs.Answered.{first_answers, undisturbed_answers}
 
 -- ---- events of lines
@@ -88,23 +88,22 @@ read_script bytes config said is =
         ap (λ (one : Header). with_config one.config (events_from one.version 2 is.texts)) same ∙ ap (with_config config) (read_events is.version 2 is.texts said is.says)
     by_header (Err why) h = absurd (cc)
 
-same_events : (bytes : List ℕ) (config : ConfigValue) (said : List Line) (events : List Event) → IsText bytes config said → script bytes ≡ Ok (record { config = config; events = events }) → events ≡ said_events said
-same_events bytes config said events is read =
-    let both : ◌≡◌ {A = Result Script BadLine} (Ok (record { config = config; events = events })) (Ok (record { config = config; events = said_events said })) = sym read ∙ read_script bytes config said is in
-    let scripts : ◌≡◌ {A = Script} (record { config = config; events = events }) (record { config = config; events = said_events said }) = cc in
-    ap (λ (s : Script). s.events) scripts
+same_script : (bytes : List ℕ) (config : ConfigValue) (said : List Line) (made : Script) → IsText bytes config said → script bytes ≡ Ok made → made ≡ record { config = config; events = said_events said }
+same_script bytes config said made is read =
+    let both : ◌≡◌ {A = Result Script BadLine} (Ok made) (Ok (record { config = config; events = said_events said })) = sym read ∙ read_script bytes config said is in
+    cc
 
--- AN UNDISTURBED SCRIPT, read from its bytes, answers each transaction that it submits
-pub text_answers : (bytes : List ℕ) (config : ConfigValue) (said : List Line) (events : List Event) (world : WorldState) → IsText bytes config said → AreUndisturbed config said
-    → script bytes ≡ Ok (record { config = config; events = events }) → run config events ≡ Some world → AreAnswered world.history world.history
-text_answers bytes config said events world is are read h =
-    let same = same_events bytes config said events is read in
-    undisturbed_answers config events world (subst (IsUndisturbed config) (sym same) (undisturbed_lines config said are)) h
+-- AN UNDISTURBED SCRIPT answers each transaction that it submits
+pub script_answers : (bytes : List ℕ) (made : Script) (world : WorldState) → IsUndisturbedScript bytes → script bytes ≡ Ok made → run made.config made.events ≡ Some world → AreAnswered world.history world.history
+script_answers bytes made world is read h =
+    let same = same_script bytes is.config is.said made is.text read in
+    undisturbed_answers is.config (said_events is.said) world (undisturbed_lines is.config is.said is.undisturbed) (ap (λ (s : Script). run s.config s.events) (sym same) ∙ h)
 
 -- and any script answers the transactions of its first lines, where these are undisturbed
-pub first_lines_answer : (bytes : List ℕ) (config : ConfigValue) (first more : List Line) (events : List Event) (world : WorldState) → IsText bytes config (first ++ more) → AreUndisturbed config first
-    → script bytes ≡ Ok (record { config = config; events = events }) → run config events ≡ Some world
-    → (middle : WorldState) × (run config (flat_map events_of first) ≡ Some middle) × AreAnswered middle.history world.history
-first_lines_answer bytes config first more events world is are read h =
-    let same = same_events bytes config (first ++ more) events is read ∙ events-append first more in
-    first_answers config (said_events first) (said_events more) world (undisturbed_lines config first are) (ap (λ (list : List Event). run config list) (sym same) ∙ h)
+pub script_front_answers : (bytes : List ℕ) (made : Script) (world : WorldState) → (is : BeginsUndisturbed bytes) → script bytes ≡ Ok made → run made.config made.events ≡ Some world
+    → (middle : WorldState) × (run made.config (flat_map events_of is.said) ≡ Some middle) × AreAnswered middle.history world.history
+script_front_answers bytes made world is read h =
+    let same = same_script bytes is.config (is.said ++ is.more) made is.text read in
+    let events = ap (λ (s : Script). run s.config s.events) (sym same) ∙ h in
+    let found = first_answers is.config (said_events is.said) (said_events is.more) world (undisturbed_lines is.config is.said is.undisturbed) (ap (λ (list : List Event). run is.config list) (sym (events-append is.said is.more)) ∙ events) in
+    (found.0, ap (λ (s : Script). run s.config (said_events is.said)) same ∙ found.1, found.2)
