@@ -1,6 +1,6 @@
 -- How many deliveries it takes, computed: with one less a transaction isn't answered yet. Where no replica is to
 -- spare, the bound of the law is met exactly.
-use Rattle.std.proofs.Common.{◌≡◌, ℕ, Option, Some, None, List, [], ◌∷◌, ◌++◌, arith, codes, replicate, refl}
+use Rattle.std.proofs.Common.{◌≡◌, ℕ, Option, Some, List, [], ◌∷◌, ◌++◌, arith, codes, replicate, refl}
 use Rattle.std.specs.List.{flat_map}
 use Rattle.std.specs.Option.{option_map}
 use Rattle.eris_base.specs.declared.ids.TxnId.{TxnId}

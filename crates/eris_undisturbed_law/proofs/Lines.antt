@@ -1,14 +1,12 @@
 -- FROM THE LINES OF A SCRIPT TO ITS EVENTS: the lines of an undisturbed script say an undisturbed list of events.
-use Rattle.std.proofs.Common.{◌≡◌, ◌≤◌, ◌+◌, ℕ, zero, suc, Bool, true, false, cond, ◌&&◌, nat_lt, Option, Some, None, Result, Ok, Err, List, [], ◌∷◌, ◌++◌, length, replicate, refl, ap, sym, ◌∙◌, subst, arith, append_assoc, append-nil}
+use Rattle.std.proofs.Common.{◌≡◌, ◌+◌, ℕ, zero, suc, true, Some, Result, Ok, Err, List, [], ◌∷◌, ◌++◌, replicate, refl, ap, sym, ◌∙◌, append_assoc, append-nil}
 use Rattle.std.proofs.lemmas.Bool.{and_from, and_parts}
 use Rattle.std.specs.List.{flat_map, list_all}
 use Rattle.eris_base.specs.ConfigLimits.{ConfigValue}
-use Rattle.eris_txn.specs.declared.history.HistoryEvent.{HistoryEvent}
 use Rattle.eris_script.specs.declared.event.Event.{Event}
 use Rattle.eris_script.specs.declared.header.Header.{Header}
 use Rattle.eris_script.specs.declared.line.Line.{Line}
 use Rattle.eris_script.specs.declared.reason.Reason.{Reason}
-use Rattle.eris_script.specs.Cuts.{lines}
 use Rattle.eris_script.specs.Headers.{header_of}
 use Rattle.eris_script.specs.LineForms.{line_of}
 use Rattle.eris_script.specs.Scripts.{BadLine, Script, events_from, events_of, script, script_in, with_config, with_events}
@@ -72,7 +70,7 @@ read_events version number (text ∷ texts) (line ∷ said) says =
     by_line (line_of version text) says.0 (read_events version (number + 1) texts said says.1)
   where
     by_line : (read : Result Line Reason) → read ≡ Ok line → events_from version (number + 1) texts ≡ Ok (said_events said)
-        → ◌≡◌ {A = Result (List Event) BadLine} (elim read [ | Ok one ↦ with_events (events_of one) (events_from version (number + 1) texts) | Err why ↦ Err (record { line = number; reason = why }) ]) (Ok (events_of line ++ said_events said))
+        → ◌≡◌ {A = Result (List Event) BadLine} (elim read [ Ok one ↦ with_events (events_of one) (events_from version (number + 1) texts) | Err why ↦ Err (record { line = number; reason = why }) ]) (Ok (events_of line ++ said_events said))
     by_line (Ok one) is rest = let same : one ≡ line = cc in ap (λ (l : Line). with_events (events_of l) (events_from version (number + 1) texts)) same ∙ ap (with_events (events_of line)) rest
     by_line (Err why) is rest = absurd (cc)
 
@@ -82,7 +80,7 @@ read_script bytes config said is =
     ap script_in is.cut ∙ by_header (header_of is.first) is.headed
   where
     by_header : (read : Result Header Reason) → read ≡ Ok (record { version = is.version; config = config })
-        → ◌≡◌ {A = Result Script BadLine} (elim read [ | Ok header ↦ with_config header.config (events_from header.version 2 is.texts) | Err why ↦ Err (record { line = 1; reason = why }) ]) (Ok (record { config = config; events = said_events said }))
+        → ◌≡◌ {A = Result Script BadLine} (elim read [ Ok header ↦ with_config header.config (events_from header.version 2 is.texts) | Err why ↦ Err (record { line = 1; reason = why }) ]) (Ok (record { config = config; events = said_events said }))
     by_header (Ok header) h =
         let same : header ≡ record { version = is.version; config = config } = cc in
         ap (λ (one : Header). with_config one.config (events_from one.version 2 is.texts)) same ∙ ap (with_config config) (read_events is.version 2 is.texts said is.says)
