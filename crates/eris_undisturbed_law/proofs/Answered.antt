@@ -1,6 +1,6 @@
 -- WHERE NOTHING WAITS ANY MORE, each transaction is answered: the votes of all replicas that are up have come, and on
 -- each shard they are a majority with the learner's answer. So a script that nothing disturbs answers all that it submits.
-use Rattle.std.proofs.Common.{◌≡◌, ◌≤◌, ◌<◌, ◌+◌, ◌*◌, ◌-◌, ◌⊎◌, inl, inr, ℕ, zero, suc, Bool, true, false, cond, ◌==◌, Option, Some, None, List, [], ◌∷◌, ◌++◌, length, replicate, refl, ap, sym, ◌∙◌, subst, arith}
+use Rattle.std.proofs.Common.{◌≡◌, ◌≤◌, ◌+◌, ◌-◌, ℕ, zero, suc, true, false, ◌==◌, Some, List, [], ◌∷◌, ◌++◌, replicate, refl, ap, sym, ◌∙◌, subst, arith}
 use Rattle.std.proofs.lemmas.Bool.{and_from, and_parts, eq-eqb}
 use Rattle.std.specs.List.{list_all}
 use Rattle.eris_base.specs.declared.ids.ClientId.{ClientId}
@@ -17,7 +17,6 @@ use Rattle.eris_msg.specs.declared.outgoing.Outgoing.{Outgoing}
 use Rattle.eris_script.specs.declared.event.Event.{Event}
 use Rattle.eris_rules.specs.declared.transaction.Course.{Course}
 use Rattle.eris_rules.specs.declared.transaction.Transaction.{Transaction}
-use Rattle.eris_rules.specs.Addressees.{replica_count}
 use Rattle.eris_rules.specs.ClientStates.{body_of}
 use Rattle.eris_rules.specs.Runs.{run, run_from}
 use Rattle.eris_rules.specs.Votes.{is_complete, is_counted}
@@ -25,7 +24,7 @@ use Rattle.eris_rules.specs.Worlds.{WorldState, first_world}
 use Rattle.eris_epoch_law.specs.Members.{In}
 use Rattle.eris_epoch_law.proofs.Members.{any_from}
 use Rattle.eris_undisturbed_law.specs.Undisturbed.{AreAnswered, IsAnswered, IsUndisturbed, crashes, is_calm, packets_for_all}
-use Rattle.eris_undisturbed_law.proofs.Calm.{Coming, Done, Down, Heard, IsCalm, IsCalmWorld, IsOpen, Job, Open, Progress, Said, Spread, Stage, Submitted, Unstamped, Way, shards_of_ops, weigh, weight}
+use Rattle.eris_undisturbed_law.proofs.Calm.{Coming, Done, Down, Heard, IsCalm, IsCalmWorld, IsOpen, Job, Open, Progress, Said, Spread, Stage, Unstamped, Way, shards_of_ops, weight}
 use Rattle.eris_undisturbed_law.proofs.Growing.{run_grows}
 use Rattle.eris_undisturbed_law.proofs.Majorities.{is_down}
 use Rattle.eris_undisturbed_law.proofs.Running.{flows_calm, run_calm, run_parts, submissions_stand}
@@ -57,9 +56,9 @@ module _ (config : ConfigValue) (limits : ShardId → ℕ) (few : (shard : Shard
     all_counted id ops transaction opened (Unstamped i) = absurd i
     all_counted id ops transaction opened (Spread stamp each) =
         all_pass (λ shard. is_counted transaction.counted shard) (shards_of_ops ops) (λ shard i.
-          let named : has_shard (shards_of_ops ops) shard ≡ true = any_from (λ (other : ShardId). other.0 == shard.0) (shards_of_ops ops) shard i (eq-eqb shard.0 shard.0 refl) in
-          majority_counts config.f transaction.votes transaction.counted shard stamp world.crashed opened.counts (let down = calm.few shard in let most = few shard in omega (arith, down, most)) (calm.first_up shard)
-          (λ replica low up. heard_by id ops transaction stamp shard replica up (each shard replica named low)))
+        let named : has_shard (shards_of_ops ops) shard ≡ true = any_from (λ (other : ShardId). other.0 == shard.0) (shards_of_ops ops) shard i (eq-eqb shard.0 shard.0 refl) in
+        majority_counts config.f transaction.votes transaction.counted shard stamp world.crashed opened.counts (let down = calm.few shard in let most = few shard in omega (arith, down, most)) (calm.first_up shard)
+        (λ replica low up. heard_by id ops transaction stamp shard replica up (each shard replica named low)))
 
     answered_by : (id : TxnId) (ops : List Op) (job : Job config world.history world.clients world.crashed [] id ops) → Progress config world.history world.crashed [] id ops job.transaction → IsAnswered id world.history
     unfolding is_complete
@@ -91,15 +90,13 @@ undisturbed_answers config events world is h =
     (subst (λ (budget : ℕ). IsCalm config (λ shard. 0 + crashes shard is.front) budget world) none last)
 
 -- and whatever comes after, these are still answered
-pub first_answers : (config : ConfigValue) (events more : List Event) (middle world : WorldState) → IsUndisturbed config events → run config events ≡ Some middle
-    → run config (events ++ more) ≡ Some world → AreAnswered middle.history world.history
+pub first_answers : (config : ConfigValue) (events more : List Event) (world : WorldState) → IsUndisturbed config events → run config (events ++ more) ≡ Some world
+    → (middle : WorldState) × (run config events ≡ Some middle) × AreAnswered middle.history world.history
 unfolding run
-first_answers config events more middle world is h k =
-    let parts = run_parts config (Some (first_world config)) events more world k in
-    let both : Some parts.0 ≡ Some middle = sym parts.1 ∙ h in
-    let same : parts.0 ≡ middle = cc in
-    let answered = undisturbed_answers config events middle is h in
-    record { at = λ id txn i. (let now = answered.at id txn i in (now.0, run_grows config middle more world (subst (λ (w : WorldState). run_from config (Some w) more ≡ Some world) same parts.2) _ now.1)) }
+first_answers config events more world is h =
+    let parts = run_parts config (Some (first_world config)) events more world h in
+    let answered = undisturbed_answers config events parts.0 is parts.1 in
+    (parts.0, parts.1, record { at = λ id txn i. (let now = answered.at id txn i in (now.0, run_grows config parts.0 more world parts.2 _ now.1)) })
 
 -- and each submission of its events stands in the history
 pub submissions_there : (config : ConfigValue) (events : List Event) (world : WorldState) → IsUndisturbed config events → run config events ≡ Some world

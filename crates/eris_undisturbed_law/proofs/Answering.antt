@@ -1,7 +1,6 @@
 -- A VOTE COMES, in the world: what holds at every moment holds after it.
-use Rattle.std.proofs.Common.{◌≡◌, ◌≤◌, ◌<◌, ◌+◌, ◌-◌, ◌⊎◌, inl, inr, ℕ, zero, suc, Bool, true, false, not, cond, ◌==◌, Option, Some, None, is_some, List, [], ◌∷◌, ◌++◌, length, refl, ap, sym, ◌∙◌, subst, arith, append-nil, length-append}
-use Rattle.std.proofs.lemmas.Bool.{cases_Bool, cases_eq}
-use Rattle.std.specs.List.{range_with_len}
+use Rattle.std.proofs.Common.{◌≡◌, ◌≤◌, ◌-◌, ◌⊎◌, inl, inr, ℕ, true, false, Option, Some, None, is_some, List, [], ◌∷◌, ◌++◌, length, refl, ap, sym, ◌∙◌, subst, arith, append-nil, length-append}
+use Rattle.std.proofs.lemmas.Bool.{cases_Bool}
 use Rattle.std.specs.Prelude.{slice_get, slice_set}
 use Rattle.eris_base.specs.declared.ids.ClientId.{ClientId}
 use Rattle.eris_base.specs.declared.ids.Node.TheVariants.{Client, Replica, Sequencer}
@@ -11,18 +10,14 @@ use Rattle.eris_base.specs.declared.ids.ShardId.{ShardId}
 use Rattle.eris_base.specs.declared.ids.TxnId.{TxnId}
 use Rattle.eris_base.specs.declared.stamp.Stamp.{Stamp}
 use Rattle.eris_base.specs.ConfigLimits.{ConfigValue}
-use Rattle.eris_base.specs.Each.{Each}
 use Rattle.eris_base.specs.TxnIds.{same_id}
 use Rattle.eris_base.proofs.TxnIdLaws.{same_id-true, same_id-refl}
 use Rattle.eris_txn.specs.declared.answer.Answer.{Answer}
 use Rattle.eris_txn.specs.declared.history.HistoryEvent.{HistoryEvent}
 use Rattle.eris_txn.specs.declared.op.Op.{Op}
 use Rattle.eris_txn.specs.declared.txn.Txn.{Txn}
-use Rattle.eris_msg.specs.declared.message.Message.{Message}
 use Rattle.eris_msg.specs.declared.outgoing.Outgoing.{Outgoing}
-use Rattle.eris_rules.specs.declared.transaction.Transaction.{Transaction}
 use Rattle.eris_rules.specs.declared.transaction.Vote.{Vote}
-use Rattle.eris_rules.specs.Addressees.{replica_count}
 use Rattle.eris_rules.specs.ClientStates.{ClientIdentity, ClientOut, ClientState, transaction_at}
 use Rattle.eris_rules.specs.Clients.{client_step}
 use Rattle.eris_rules.specs.Happenings.{after_client, client_acts, client_acts_by}
@@ -33,7 +28,7 @@ use Rattle.eris_epoch_law.specs.Members.{In}
 use Rattle.eris_epoch_law.proofs.Members.{In-left, In-right}
 use Rattle.eris_agreement.proofs.Cells.{get-set, get-set_same}
 use Rattle.eris_undisturbed_law.specs.Undisturbed.{IsAnswered}
-use Rattle.eris_undisturbed_law.proofs.Calm.{Done, Fine, Heard, IsCalmWorld, IsCell, IsJob, IsOpen, IsQueue, IsRight, Job, Open, Progress, Stage, Submitted, Way, voting, weigh}
+use Rattle.eris_undisturbed_law.proofs.Calm.{Done, Heard, IsCalmWorld, IsCell, IsJob, IsOpen, IsQueue, IsRight, Job, Open, Progress, Submitted, Way, voting}
 use Rattle.eris_undisturbed_law.proofs.Counting.{Hears, heard, in_place_by, keeps_with, same_vote, submits_none}
 use Rattle.eris_undisturbed_law.proofs.Moving.{Brings, Keeps, ReadsSame, all_fine, answered_still, job_kept, job_still, lives_still, one_transaction, way_next}
 use Rattle.eris_undisturbed_law.proofs.Queues.{queue_more, queue_next}

@@ -1,9 +1,8 @@
 -- A PACKET COMES to a replica: one that is up holds it at its next number and votes for it, and one that is down does
 -- nothing.
-use Rattle.std.proofs.Common.{◌≡◌, ◌≤◌, ◌<◌, ◌+◌, ◌*◌, ◌-◌, ◌%◌, ◌⊎◌, inl, inr, ℕ, zero, suc, Bool, true, false, not, cond, ◌==◌, ◌||◌, ◌&&◌, nat_lt, Option, Some, None, is_some, List, [], ◌∷◌, ◌++◌, map, length, refl, ap, sym, ◌∙◌, subst, arith, append-nil, length-append}
-use Rattle.std.proofs.lemmas.Bool.{and_from, and_parts, cases_eq, cond-false, cond-true, eq-eqb, eqb-true, false_from_ne_true, lt-ltb, ne_eqb, not_from_false}
+use Rattle.std.proofs.Common.{◌≡◌, ◌≤◌, ◌<◌, ◌+◌, ◌*◌, ◌-◌, ◌%◌, inl, inr, ℕ, Bool, true, false, cond, ◌==◌, Option, Some, None, is_some, List, [], ◌∷◌, ◌++◌, length, refl, ap, sym, ◌∙◌, subst, arith, append-nil, length-append}
+use Rattle.std.proofs.lemmas.Bool.{and_from, and_parts, cond-false, cond-true, eq-eqb, eqb-true, false_from_ne_true, lt-ltb, ne_eqb, not_from_false}
 use Rattle.eris_base.specs.declared.ids.Node.TheVariants.{Client, Replica, Sequencer}
-use Rattle.eris_base.specs.declared.ids.Phase.{Phase}
 use Rattle.eris_base.specs.declared.ids.ReplicaId.{ReplicaId}
 use Rattle.eris_base.specs.declared.ids.ShardId.{ShardId}
 use Rattle.eris_base.specs.declared.ids.TxnId.{TxnId}
@@ -14,35 +13,28 @@ use Rattle.eris_base.specs.Places.{number_in}
 use Rattle.eris_base.specs.Quorums.{learner_of, same_replica}
 use Rattle.eris_base.proofs.Each.{Each-append}
 use Rattle.eris_txn.specs.declared.answer.Answer.{Answer}
-use Rattle.eris_txn.specs.declared.body.Body.{Body}
 use Rattle.eris_txn.specs.declared.body.Body.TheVariants.{Independent}
 use Rattle.eris_txn.specs.declared.op.Op.{Op}
 use Rattle.eris_txn.specs.declared.packet.Packet.{Packet}
 use Rattle.eris_msg.specs.declared.message.Message.{Message}
 use Rattle.eris_msg.specs.declared.outgoing.Outgoing.{Outgoing}
 use Rattle.eris_rules.specs.declared.replica_input.ReplicaInput.{ReplicaInput}
-use Rattle.eris_rules.specs.declared.transaction.Course.{Course}
-use Rattle.eris_rules.specs.declared.transaction.Course.TheVariants.{Executing}
-use Rattle.eris_rules.specs.declared.transaction.Transaction.{Transaction}
 use Rattle.eris_rules.specs.declared.transaction.Vote.{Vote}
 use Rattle.eris_rules.specs.Addressees.{replica_count}
-use Rattle.eris_rules.specs.ClientStates.{ClientState, transaction_at}
 use Rattle.eris_rules.specs.Happenings.{after_replica, replica_steps, replica_takes}
 use Rattle.eris_rules.specs.InPlace.{all_name_participants, is_in_place_at_replica, is_sound}
-use Rattle.eris_rules.specs.Known.{knows_all, knows_body, knows_client, knows_packet, knows_replica, knows_shard}
-use Rattle.eris_rules.specs.Outer.{outer_sends}
+use Rattle.eris_rules.specs.Known.{knows_all, knows_body, knows_packet}
 use Rattle.eris_rules.specs.ReplicaAnswers.{answer_after, prompt_answer, store_after}
-use Rattle.eris_rules.specs.ReplicaStates.{ReplicaState, is_learner}
+use Rattle.eris_rules.specs.ReplicaStates.{ReplicaState}
 use Rattle.eris_rules.specs.Replicas.{replica_step}
-use Rattle.eris_rules.specs.Speaking.{replies_with, vouch_for}
 use Rattle.eris_rules.specs.Votes.{role_fits, vote_fits}
-use Rattle.eris_rules.specs.Worlds.{WorldState, client_at, has_crashed, no_longer_waiting, replica_at, with_replica, with_sends}
+use Rattle.eris_rules.specs.Worlds.{WorldState, has_crashed, no_longer_waiting, replica_at, with_replica, with_sends}
 use Rattle.eris_epoch_law.specs.Members.{In}
 use Rattle.eris_epoch_law.proofs.Members.{In-left, In-right}
 use Rattle.eris_epoch_law.proofs.Frame.{replica_equal, shard_equal}
 use Rattle.eris_agreement.proofs.Cells.{cell, cell-same, everywhere}
-use Rattle.eris_undisturbed_law.proofs.Calm.{Down, Fine, IsCalmWorld, IsCarried, IsCell, IsJob, IsRight, Job, Lives, NumberedFrom, Said, Stage, Submitted, Votes, asking, packet_of, shards_of_ops, voting, weigh}
-use Rattle.eris_undisturbed_law.proofs.Executing.{HasItems, IsWhole, answered, ops_on}
+use Rattle.eris_undisturbed_law.proofs.Calm.{Down, Fine, IsCalmWorld, IsCarried, IsCell, IsJob, IsRight, Job, Lives, NumberedFrom, Said, Stage, Submitted, Votes, packet_of, voting}
+use Rattle.eris_undisturbed_law.proofs.Executing.{IsWhole, answered, ops_on}
 use Rattle.eris_undisturbed_law.proofs.Majorities.{is_down}
 use Rattle.eris_undisturbed_law.proofs.Moving.{Brings, job_kept, one_transaction, reads_itself, way_next}
 use Rattle.eris_undisturbed_law.proofs.Queues.{queue_more, queue_next}

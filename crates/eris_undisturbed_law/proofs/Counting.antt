@@ -1,26 +1,16 @@
 -- A VOTE COMES to its client: it is noted, and where its shards are all counted by then, the client is answered.
-use Rattle.std.proofs.Common.{◌≡◌, ◌≤◌, ◌<◌, ◌+◌, ◌-◌, ◌⊎◌, inl, inr, ℕ, zero, suc, Bool, true, false, not, cond, ◌==◌, ◌||◌, ◌&&◌, Option, Some, None, is_some, List, [], ◌∷◌, ◌++◌, length, refl, ap, sym, ◌∙◌, subst, arith, append-nil, length-append}
-use Rattle.std.proofs.lemmas.Bool.{and_from, and_left, cases_Bool, cases_eq, cond-false, cond-true, not_from_false}
-use Rattle.std.specs.Prelude.{slice_get, slice_set}
-use Rattle.eris_base.specs.declared.ids.ClientId.{ClientId}
-use Rattle.eris_base.specs.declared.ids.Node.TheVariants.{Client, Replica, Sequencer}
+use Rattle.std.proofs.Common.{◌≡◌, ◌⊎◌, inl, inr, ℕ, Bool, true, false, not, cond, Option, Some, None, List, [], ◌∷◌, ◌++◌, refl, ap, sym, ◌∙◌, subst}
+use Rattle.std.proofs.lemmas.Bool.{and_from, and_left, cond-false, cond-true}
 use Rattle.eris_base.specs.declared.ids.Phase.{Phase}
-use Rattle.eris_base.specs.declared.ids.ReplicaId.{ReplicaId}
-use Rattle.eris_base.specs.declared.ids.ShardId.{ShardId}
 use Rattle.eris_base.specs.declared.ids.TxnId.{TxnId}
-use Rattle.eris_base.specs.declared.stamp.Stamp.{Stamp}
 use Rattle.eris_base.specs.ConfigLimits.{ConfigValue}
 use Rattle.eris_base.specs.TxnIds.{same_id}
-use Rattle.eris_base.proofs.TxnIdLaws.{same_id-true, same_id-refl}
 use Rattle.eris_txn.specs.declared.answer.Answer.{Answer}
 use Rattle.eris_txn.specs.declared.body.Body.{Body}
 use Rattle.eris_txn.specs.declared.body.Body.TheVariants.{Independent}
 use Rattle.eris_txn.specs.declared.history.HistoryEvent.{HistoryEvent}
 use Rattle.eris_txn.specs.declared.op.Op.{Op}
-use Rattle.eris_txn.specs.declared.packet.Packet.{Packet}
 use Rattle.eris_txn.specs.declared.txn.Txn.{Txn}
-use Rattle.eris_msg.specs.declared.message.Message.{Message}
-use Rattle.eris_msg.specs.declared.outgoing.Outgoing.{Outgoing}
 use Rattle.eris_rules.specs.declared.transaction.Course.{Course}
 use Rattle.eris_rules.specs.declared.transaction.Course.TheVariants.{Executing}
 use Rattle.eris_rules.specs.declared.transaction.Transaction.{Transaction}
@@ -28,23 +18,17 @@ use Rattle.eris_rules.specs.declared.transaction.Vote.{Vote}
 use Rattle.eris_rules.specs.ClientStates.{ClientIdentity, ClientOut, ClientState, body_of, transaction_at, with_transaction}
 use Rattle.eris_locks.specs.States.{phase_of, same_phase}
 use Rattle.eris_rules.specs.Clients.{client_step, client_takes, completes, finishes, goes_on, hears_vote, hears_vote_of, idle, is_executed, vote_row}
-use Rattle.eris_rules.specs.Happenings.{after_client, client_acts, client_acts_by}
 use Rattle.eris_rules.specs.InPlace.{all_name_participants, is_in_place_at_client, is_sound}
 use Rattle.eris_rules.specs.Known.{knows_all, knows_client}
 use Rattle.eris_rules.specs.Votes.{is_complete, vote_fits, waits_for, with_vote}
-use Rattle.eris_rules.specs.Worlds.{WorldState, client_at, no_longer_waiting, with_event, with_sends}
+use Rattle.eris_rules.specs.Worlds.{with_event}
 use Rattle.eris_client_law.specs.Counts.{message_of, message_with}
 use Rattle.eris_client_law.proofs.Entries.{found_other, found_put}
 use Rattle.eris_epoch_law.specs.Members.{In}
-use Rattle.eris_epoch_law.proofs.Members.{In-append, In-left, In-right}
-use Rattle.eris_agreement.proofs.Cells.{get-set, get-set_same}
-use Rattle.eris_undisturbed_law.specs.Undisturbed.{IsAnswered}
-use Rattle.eris_undisturbed_law.proofs.Calm.{Done, Fine, Heard, IsCalmWorld, IsCell, IsJob, IsOpen, IsRight, Job, Open, Progress, Stage, Submitted, Way, asking, packet_of, voting, weigh}
-use Rattle.eris_undisturbed_law.proofs.Moving.{Brings, Keeps, ReadsSame, all_fine, answered_still, job_kept, job_still, lives_still, way_next}
-use Rattle.eris_undisturbed_law.proofs.Queues.{queue_more, queue_next}
-use Rattle.eris_undisturbed_law.proofs.Sending.{carrying, coming}
-use Rattle.eris_undisturbed_law.proofs.Stamping.{weight-vote}
-use Rattle.eris_undisturbed_law.proofs.Voting.{CountsAll, HasVote, counts_more, vote_by}
+use Rattle.eris_epoch_law.proofs.Members.{In-append, In-left}
+use Rattle.eris_undisturbed_law.proofs.Calm.{IsOpen, IsRight}
+use Rattle.eris_undisturbed_law.proofs.Moving.{Keeps}
+use Rattle.eris_undisturbed_law.proofs.Voting.{CountsAll, counts_more}
 
 -- what the client's step does with one of its transactions
 pub record Hears (f : ℕ) (state : ClientState) (id : TxnId) (before : Transaction) (vote : Vote) (out : ClientOut) : Type 0 where

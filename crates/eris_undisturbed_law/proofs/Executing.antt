@@ -1,8 +1,7 @@
 -- WHERE ALL PACKETS ARE OF INDEPENDENT TRANSACTIONS, the shard's store answers each at once: nobody holds locks,
 -- so nobody waits for one. An id that comes again gets the answer that was recorded, which has as many items.
 -- Used where a learner gets a packet.
-use Rattle.std.proofs.Common.{◌≡◌, ◌⊎◌, inl, inr, ℕ, zero, suc, ◌+◌, not, Bool, true, false, cond, ◌==◌, ◌||◌, ◌&&◌, Option, Some, None, List, [], ◌∷◌, length, map, refl, ap, sym, ◌∙◌, subst, arith}
-use Rattle.std.proofs.lemmas.Bool.{and_parts, eq-eqb}
+use Rattle.std.proofs.Common.{◌≡◌, ℕ, suc, not, Bool, true, false, cond, ◌==◌, ◌&&◌, Option, Some, None, List, [], ◌∷◌, length, map, refl, ap, sym, ◌∙◌, subst}
 use Rattle.std.proofs.lemmas.List.Sums.{length-filter}
 use Rattle.eris_txn.specs.declared.key.Key.{Key}
 use Rattle.std.specs.List.{filter, count_by}
@@ -23,11 +22,11 @@ use Rattle.eris_txn.specs.declared.op.Op.{Op}
 use Rattle.eris_txn.specs.declared.packet.Packet.{Packet}
 use Rattle.eris_txn.specs.Keys.{Values}
 use Rattle.eris_txn.specs.Operations.{after, answers, key_of}
-use Rattle.eris_locks.specs.LockTable.{Stepped, arrive, arrive_new, done, execute, nothing_done, only, run_state, step}
+use Rattle.eris_locks.specs.LockTable.{Stepped, arrive, arrive_new, done, execute, only, run_state, step}
 use Rattle.eris_locks.specs.declared.done.Done.{Done}
 use Rattle.eris_locks.specs.declared.shard_packet.ShardPacket.{ShardPacket}
 use Rattle.eris_locks.specs.Shards.{cut, cut_body, is_on, names_shard, on_shard, place_on}
-use Rattle.eris_locks.specs.States.{StoreState, empty, note, waits}
+use Rattle.eris_locks.specs.States.{StoreState, empty}
 
 -- how many of some operations are on a shard
 abbrev pub ops_on : ShardId → List Op → ℕ
@@ -146,6 +145,6 @@ module _ (shard : ShardId) (Known : TxnId → List Op → Type 0) (one : (id : T
   answered log p ops each is =
       let now = run_state empty (on_shard shard log) in
       let stepped =
-          subst (λ (body : Body). Answers p.id ops (step now (record { id = p.id; asker = p.asker; at = place_on shard p.stamp; body = cut_body shard body }))) (sym is.body)
-          (answers_at_once now (free_after log empty each empty_free) p.id p.asker (place_on shard p.stamp) ops is.known) in
+      subst (λ (body : Body). Answers p.id ops (step now (record { id = p.id; asker = p.asker; at = place_on shard p.stamp; body = cut_body shard body }))) (sym is.body)
+      (answers_at_once now (free_after log empty each empty_free) p.id p.asker (place_on shard p.stamp) ops is.known) in
       (stepped.answer, stepped.prompt, stepped.has)

@@ -18,3 +18,5 @@ pub mod Starting
 pub mod Running
 pub mod Answered
 pub mod Lines
+mod Opened
+mod Examples

@@ -1,20 +1,18 @@
 -- FROM THE LINES OF A SCRIPT TO ITS EVENTS: the lines of an undisturbed script say an undisturbed list of events.
-use Rattle.std.proofs.Common.{◌≡◌, ◌≤◌, ◌+◌, ℕ, zero, suc, Bool, true, false, cond, ◌&&◌, nat_lt, Option, Some, None, Result, Ok, Err, List, [], ◌∷◌, ◌++◌, length, replicate, refl, ap, sym, ◌∙◌, subst, arith, append_assoc, append-nil}
+use Rattle.std.proofs.Common.{◌≡◌, ◌+◌, ℕ, zero, suc, true, Some, Result, Ok, Err, List, [], ◌∷◌, ◌++◌, replicate, refl, ap, sym, ◌∙◌, append_assoc, append-nil}
 use Rattle.std.proofs.lemmas.Bool.{and_from, and_parts}
 use Rattle.std.specs.List.{flat_map, list_all}
 use Rattle.eris_base.specs.ConfigLimits.{ConfigValue}
-use Rattle.eris_txn.specs.declared.history.HistoryEvent.{HistoryEvent}
 use Rattle.eris_script.specs.declared.event.Event.{Event}
 use Rattle.eris_script.specs.declared.header.Header.{Header}
 use Rattle.eris_script.specs.declared.line.Line.{Line}
 use Rattle.eris_script.specs.declared.reason.Reason.{Reason}
-use Rattle.eris_script.specs.Cuts.{lines}
 use Rattle.eris_script.specs.Headers.{header_of}
 use Rattle.eris_script.specs.LineForms.{line_of}
 use Rattle.eris_script.specs.Scripts.{BadLine, Script, events_from, events_of, script, script_in, with_config, with_events}
 use Rattle.eris_rules.specs.Runs.{run}
 use Rattle.eris_rules.specs.Worlds.{WorldState}
-use Rattle.eris_undisturbed_law.specs.Undisturbed.{AreAnswered, AreUndisturbed, IsText, IsUndisturbed, Say, is_calm, is_calm_line}
+use Rattle.eris_undisturbed_law.specs.Undisturbed.{AreAnswered, AreUndisturbed, BeginsUndisturbed, IsText, IsUndisturbed, IsUndisturbedScript, Say, is_calm, is_calm_line}
 use Rattle.eris_undisturbed_law.proofs.Answered.{first_answers, undisturbed_answers}
 
 -- ---- events of lines
@@ -72,7 +70,7 @@ read_events version number (text ∷ texts) (line ∷ said) says =
     by_line (line_of version text) says.0 (read_events version (number + 1) texts said says.1)
   where
     by_line : (read : Result Line Reason) → read ≡ Ok line → events_from version (number + 1) texts ≡ Ok (said_events said)
-        → ◌≡◌ {A = Result (List Event) BadLine} (elim read [ | Ok one ↦ with_events (events_of one) (events_from version (number + 1) texts) | Err why ↦ Err (record { line = number; reason = why }) ]) (Ok (events_of line ++ said_events said))
+        → ◌≡◌ {A = Result (List Event) BadLine} (elim read [ Ok one ↦ with_events (events_of one) (events_from version (number + 1) texts) | Err why ↦ Err (record { line = number; reason = why }) ]) (Ok (events_of line ++ said_events said))
     by_line (Ok one) is rest = let same : one ≡ line = cc in ap (λ (l : Line). with_events (events_of l) (events_from version (number + 1) texts)) same ∙ ap (with_events (events_of line)) rest
     by_line (Err why) is rest = absurd (cc)
 
@@ -82,28 +80,28 @@ read_script bytes config said is =
     ap script_in is.cut ∙ by_header (header_of is.first) is.headed
   where
     by_header : (read : Result Header Reason) → read ≡ Ok (record { version = is.version; config = config })
-        → ◌≡◌ {A = Result Script BadLine} (elim read [ | Ok header ↦ with_config header.config (events_from header.version 2 is.texts) | Err why ↦ Err (record { line = 1; reason = why }) ]) (Ok (record { config = config; events = said_events said }))
+        → ◌≡◌ {A = Result Script BadLine} (elim read [ Ok header ↦ with_config header.config (events_from header.version 2 is.texts) | Err why ↦ Err (record { line = 1; reason = why }) ]) (Ok (record { config = config; events = said_events said }))
     by_header (Ok header) h =
         let same : header ≡ record { version = is.version; config = config } = cc in
         ap (λ (one : Header). with_config one.config (events_from one.version 2 is.texts)) same ∙ ap (with_config config) (read_events is.version 2 is.texts said is.says)
     by_header (Err why) h = absurd (cc)
 
-same_events : (bytes : List ℕ) (config : ConfigValue) (said : List Line) (events : List Event) → IsText bytes config said → script bytes ≡ Ok (record { config = config; events = events }) → events ≡ said_events said
-same_events bytes config said events is read =
-    let both : ◌≡◌ {A = Result Script BadLine} (Ok (record { config = config; events = events })) (Ok (record { config = config; events = said_events said })) = sym read ∙ read_script bytes config said is in
-    let scripts : ◌≡◌ {A = Script} (record { config = config; events = events }) (record { config = config; events = said_events said }) = cc in
-    ap (λ (s : Script). s.events) scripts
+same_script : (bytes : List ℕ) (config : ConfigValue) (said : List Line) (made : Script) → IsText bytes config said → script bytes ≡ Ok made → made ≡ record { config = config; events = said_events said }
+same_script bytes config said made is read =
+    let both : ◌≡◌ {A = Result Script BadLine} (Ok made) (Ok (record { config = config; events = said_events said })) = sym read ∙ read_script bytes config said is in
+    cc
 
--- AN UNDISTURBED SCRIPT, read from its bytes, answers each transaction that it submits
-pub text_answers : (bytes : List ℕ) (config : ConfigValue) (said : List Line) (events : List Event) (world : WorldState) → IsText bytes config said → AreUndisturbed config said
-    → script bytes ≡ Ok (record { config = config; events = events }) → run config events ≡ Some world → AreAnswered world.history world.history
-text_answers bytes config said events world is are read h =
-    let same = same_events bytes config said events is read in
-    undisturbed_answers config events world (subst (IsUndisturbed config) (sym same) (undisturbed_lines config said are)) h
+-- AN UNDISTURBED SCRIPT answers each transaction that it submits
+pub script_answers : (bytes : List ℕ) (made : Script) (world : WorldState) → IsUndisturbedScript bytes → script bytes ≡ Ok made → run made.config made.events ≡ Some world → AreAnswered world.history world.history
+script_answers bytes made world is read h =
+    let same = same_script bytes is.config is.said made is.text read in
+    undisturbed_answers is.config (said_events is.said) world (undisturbed_lines is.config is.said is.undisturbed) (ap (λ (s : Script). run s.config s.events) (sym same) ∙ h)
 
 -- and any script answers the transactions of its first lines, where these are undisturbed
-pub first_lines_answer : (bytes : List ℕ) (config : ConfigValue) (first more : List Line) (events : List Event) (middle world : WorldState) → IsText bytes config (first ++ more) → AreUndisturbed config first
-    → script bytes ≡ Ok (record { config = config; events = events }) → run config (flat_map events_of first) ≡ Some middle → run config events ≡ Some world → AreAnswered middle.history world.history
-first_lines_answer bytes config first more events middle world is are read h k =
-    let same = same_events bytes config (first ++ more) events is read ∙ events-append first more in
-    first_answers config (said_events first) (said_events more) middle world (undisturbed_lines config first are) h (ap (λ (list : List Event). run config list) (sym same) ∙ k)
+pub script_front_answers : (bytes : List ℕ) (made : Script) (world : WorldState) → (is : BeginsUndisturbed bytes) → script bytes ≡ Ok made → run made.config made.events ≡ Some world
+    → (middle : WorldState) × (run made.config (flat_map events_of is.said) ≡ Some middle) × AreAnswered middle.history world.history
+script_front_answers bytes made world is read h =
+    let same = same_script bytes is.config (is.said ++ is.more) made is.text read in
+    let events = ap (λ (s : Script). run s.config s.events) (sym same) ∙ h in
+    let found = first_answers is.config (said_events is.said) (said_events is.more) world (undisturbed_lines is.config is.said is.undisturbed) (ap (λ (list : List Event). run is.config list) (sym (events-append is.said is.more)) ∙ events) in
+    (found.0, ap (λ (s : Script). run s.config (said_events is.said)) same ∙ found.1, found.2)

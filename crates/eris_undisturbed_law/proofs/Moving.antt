@@ -1,6 +1,5 @@
 -- WHAT A STEP LEAVES AS IT WAS: a transaction that the step doesn't touch keeps its place, and so does a replica.
-use Rattle.std.proofs.Common.{◌≡◌, ◌≤◌, ◌<◌, ◌+◌, ◌⊎◌, inl, inr, ℕ, zero, suc, Bool, true, false, not, cond, ◌==◌, ◌||◌, ◌&&◌, Option, Some, None, is_some, List, [], ◌∷◌, ◌++◌, map, length, refl, ap, sym, ◌∙◌, subst, arith}
-use Rattle.std.proofs.lemmas.Bool.{cases_Bool}
+use Rattle.std.proofs.Common.{◌≡◌, ◌≤◌, ◌+◌, inl, inr, ℕ, suc, true, Option, Some, is_some, List, [], ◌∷◌, ◌++◌, length, refl, ap, sym, ◌∙◌, subst, arith}
 use Rattle.eris_base.specs.declared.ids.ReplicaId.{ReplicaId}
 use Rattle.eris_base.specs.declared.ids.ShardId.{ShardId}
 use Rattle.eris_base.specs.declared.ids.TxnId.{TxnId}
@@ -12,14 +11,13 @@ use Rattle.eris_base.proofs.Each.{Each-weaker}
 use Rattle.eris_txn.specs.declared.history.HistoryEvent.{HistoryEvent}
 use Rattle.eris_txn.specs.declared.op.Op.{Op}
 use Rattle.eris_txn.specs.declared.packet.Packet.{Packet}
-use Rattle.eris_txn.specs.declared.txn.Txn.{Txn}
 use Rattle.eris_msg.specs.declared.outgoing.Outgoing.{Outgoing}
 use Rattle.eris_rules.specs.declared.transaction.Course.TheVariants.{Executing}
 use Rattle.eris_rules.specs.declared.transaction.Transaction.{Transaction}
 use Rattle.eris_rules.specs.declared.transaction.Vote.{Vote}
 use Rattle.eris_rules.specs.ClientStates.{ClientState, transaction_at}
 use Rattle.eris_rules.specs.ReplicaStates.{ReplicaState}
-use Rattle.eris_rules.specs.Worlds.{client_at, replica_at}
+use Rattle.eris_rules.specs.Worlds.{client_at}
 use Rattle.eris_epoch_law.specs.Members.{In}
 use Rattle.eris_undisturbed_law.specs.Undisturbed.{IsAnswered}
 use Rattle.eris_undisturbed_law.proofs.Calm.{Asks, Carries, Coming, Done, Down, Fine, Heard, IsJob, Job, Lives, NumberedFrom, Open, Progress, Said, Spread, Stage, Submitted, Unstamped, Votes, Way, asking, packet_of, voting}

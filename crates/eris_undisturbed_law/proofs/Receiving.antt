@@ -1,38 +1,33 @@
 -- A REPLICA THAT GETS THE PACKETS OF ITS SHARD IN THEIR ORDER speaks for each at once: the learner of view 0 answers,
 -- and any other vouches. Used where a packet comes to a replica that is up.
-use Rattle.std.proofs.Common.{◌≡◌, ◌≤◌, ◌<◌, ◌+◌, ◌-◌, ◌⊎◌, inl, inr, max, ℕ, zero, suc, Bool, true, false, not, cond, ◌==◌, ◌||◌, ◌&&◌, Option, Some, None, List, [], ◌∷◌, ◌++◌, length, map, is_some, nat_lt, take, refl, ap, ap₂, sym, ◌∙◌, subst, arith, length-append}
+use Rattle.std.proofs.Common.{◌≡◌, ◌≤◌, ◌<◌, ◌+◌, ◌-◌, max, ℕ, zero, suc, true, false, not, cond, ◌==◌, ◌&&◌, Option, Some, None, List, [], ◌∷◌, ◌++◌, length, is_some, nat_lt, take, refl, ap, ap₂, sym, ◌∙◌, arith, length-append}
 use Rattle.std.proofs.lemmas.Bool.{and_left, cond-false, cond-true, ne_eqb}
 use Rattle.std.specs.Prelude.{slice_get}
-use Rattle.eris_base.specs.declared.ids.ClientId.{ClientId}
 use Rattle.eris_base.specs.declared.ids.Epoch.{Epoch}
-use Rattle.eris_base.specs.declared.ids.Node.{Node}
 use Rattle.eris_base.specs.declared.ids.Node.TheVariants.{Client}
 use Rattle.eris_base.specs.declared.ids.ReplicaId.{ReplicaId}
 use Rattle.eris_base.specs.declared.ids.ShardId.{ShardId}
-use Rattle.eris_base.specs.declared.ids.View.{View}
-use Rattle.eris_base.specs.Each.{Each}
 use Rattle.eris_base.specs.Places.{number_in}
 use Rattle.eris_base.specs.Quorums.{learner_of, same_replica}
 use Rattle.eris_base.specs.ConfigLimits.{ConfigValue}
 use Rattle.eris_txn.specs.declared.answer.Answer.{Answer}
 use Rattle.eris_txn.specs.declared.packet.Packet.{Packet}
-use Rattle.eris_log.specs.Entries.{entry_of, length_of}
+use Rattle.eris_log.specs.Entries.{length_of}
 use Rattle.eris_log.specs.Held.{packet_at}
 use Rattle.eris_log.specs.PartValues.{PartValue}
 use Rattle.eris_log.specs.Parts.{hold, hold_at}
 use Rattle.eris_locks.specs.States.{phase_of}
 use Rattle.eris_msg.specs.declared.message.Message.{Message}
-use Rattle.eris_msg.specs.declared.outgoing.Outgoing.{Outgoing}
 use Rattle.eris_rules.specs.declared.replica_input.ReplicaInput.{ReplicaInput}
 use Rattle.eris_rules.specs.declared.replica_status.ReplicaStatus.TheVariants.{Normal}
-use Rattle.eris_rules.specs.EpochMessages.{EpochSend, Responds, Stamped}
+use Rattle.eris_rules.specs.EpochMessages.{EpochSend, Stamped}
 use Rattle.eris_rules.specs.EpochReplicas.{Get, epoch_step, holds_packet, txn_at, txn_named, txn_row}
 use Rattle.eris_rules.specs.InPlace.{is_in_place_at_replica}
-use Rattle.eris_rules.specs.Outer.{inner_of, outer_sends}
+use Rattle.eris_rules.specs.Outer.{outer_sends}
 use Rattle.eris_rules.specs.ReplicaAnswers.{answer_after, is_open, log_upto, open_at, open_packet, open_upto}
 use Rattle.eris_rules.specs.ReplicaStates.{EpochOut, EpochReplica, Identity, Member, ReplicaOut, ReplicaState, is_learner, quiet}
-use Rattle.eris_rules.specs.Replicas.{member, message_step, replica_step, steps, steps_in, takes, takes_inner}
-use Rattle.eris_rules.specs.Speaking.{asks_once, has_gap, holds_from, replies_with, speaks_after, speaks_at, speaks_for, speaks_of, speaks_of_held, speaks_on, tail, vouch_for, reply_for}
+use Rattle.eris_rules.specs.Replicas.{message_step, replica_step, steps, steps_in, takes, takes_inner}
+use Rattle.eris_rules.specs.Speaking.{asks_once, has_gap, holds_from, replies_with, speaks_after, speaks_at, speaks_for, speaks_of, speaks_of_held, speaks_on, tail, vouch_for}
 use Rattle.eris_undisturbed_law.proofs.Numbered.{beyond, held_at, last_of, none_above, numbered, one_more_held, open_entry, whole_length, whole_part, within}
 
 -- its state within epoch 0, and over all epochs

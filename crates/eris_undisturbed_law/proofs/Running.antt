@@ -1,5 +1,5 @@
 -- A RUN THAT NOTHING DISTURBS: what holds at every moment holds at its end, where nothing waits any more.
-use Rattle.std.proofs.Common.{◌≡◌, ◌≤◌, ◌<◌, ◌+◌, ◌*◌, ◌-◌, ◌⊎◌, inl, inr, ℕ, zero, suc, Bool, true, false, not, cond, ◌==◌, ◌||◌, ◌&&◌, nat_lt, Option, Some, None, List, [], ◌∷◌, ◌++◌, map, length, replicate, refl, ap, sym, ◌∙◌, subst, arith}
+use Rattle.std.proofs.Common.{◌≡◌, ◌≤◌, ◌+◌, ◌-◌, ◌⊎◌, inl, inr, ℕ, zero, suc, Bool, true, false, cond, ◌==◌, nat_lt, Option, Some, None, List, [], ◌∷◌, ◌++◌, length, replicate, refl, sym, subst, arith}
 use Rattle.std.proofs.lemmas.Bool.{and_parts, ltb-false, ltb-true}
 use Rattle.std.specs.List.{filter, list_all}
 use Rattle.std.specs.Option.{option_or}
@@ -8,11 +8,9 @@ use Rattle.eris_base.specs.declared.ids.ReplicaId.{ReplicaId}
 use Rattle.eris_base.specs.declared.ids.ShardId.{ShardId}
 use Rattle.eris_base.specs.declared.ids.TxnId.{TxnId}
 use Rattle.eris_base.specs.ConfigLimits.{ConfigValue}
-use Rattle.eris_txn.specs.declared.body.Body.TheVariants.{Independent}
 use Rattle.eris_txn.specs.declared.history.HistoryEvent.{HistoryEvent}
 use Rattle.eris_txn.specs.declared.op.Op.{Op}
 use Rattle.eris_txn.specs.declared.txn.Txn.{Txn}
-use Rattle.eris_txn.specs.Operations.{key_of}
 use Rattle.eris_msg.specs.declared.outgoing.Outgoing.{Outgoing}
 use Rattle.eris_script.specs.declared.event.Event.{Event}
 use Rattle.eris_rules.specs.declared.refusal.Refusal.{Refusal}
@@ -22,15 +20,15 @@ use Rattle.eris_epoch_law.specs.Members.{In}
 use Rattle.eris_epoch_law.proofs.Members.{In-right}
 use Rattle.eris_undisturbed_law.proofs.Growing.{run_grows}
 use Rattle.eris_rules.specs.Happenings.{after_client, happens}
-use Rattle.eris_rules.specs.Refusals.{cause, frame_sizes, limit_met, refusal, submit_cause}
-use Rattle.eris_rules.specs.Runs.{run, run_from, taken_by, world_after}
+use Rattle.eris_rules.specs.Refusals.{cause, frame_sizes, limit_met, refusal}
+use Rattle.eris_rules.specs.Runs.{run_from, taken_by, world_after}
 use Rattle.eris_rules.specs.Worlds.{WorldState, with_sends}
 use Rattle.eris_agreement.proofs.Moments.{taken}
 use Rattle.eris_undisturbed_law.specs.Undisturbed.{crashes, crashes_on, is_calm, packets_for, packets_for_all}
-use Rattle.eris_undisturbed_law.proofs.Calm.{IsCalm, IsCalmWorld, Submitted}
+use Rattle.eris_undisturbed_law.proofs.Calm.{IsCalm, Submitted}
 use Rattle.eris_undisturbed_law.proofs.Flowing.{calm_flow}
 use Rattle.eris_undisturbed_law.proofs.Majorities.{one_if}
-use Rattle.eris_undisturbed_law.proofs.Submitting.{calm_crashed, calm_submitted, client_is, crashed_world, out, submitted_world, takes_submission}
+use Rattle.eris_undisturbed_law.proofs.Submitting.{calm_crashed, calm_submitted, client_is, crashed_world, takes_submission}
 
 -- ---- an event that is taken
 record IsAccepted (config : ConfigValue) (world : WorldState) (event : Event) : Type 0 where
@@ -56,22 +54,26 @@ accepted config world after event h = by_cause (cause config world event) refl (
 
 module _ (config : ConfigValue) where
   weaker : (limits more : ShardId → ℕ) (budget greater : ℕ) (world : WorldState) → ((shard : ShardId) → limits shard ≤ more shard) → budget ≤ greater → IsCalm config limits budget world → IsCalm config more greater world
-  weaker limits more budget greater world up high (done, rest, calm) = (done, rest, record {
-    queue = calm.queue;
-    few_sent = calm.few_sent;
-    weighs = omega (arith, calm.weighs, high);
-    stamping = calm.stamping;
-    stampings = calm.stampings;
-    epoch = calm.epoch;
-    counters = calm.counters;
-    fine = calm.fine;
-    cells = calm.cells;
-    few = λ shard. (let was = calm.few shard in let le = up shard in omega (arith, was, le));
-    first_up = calm.first_up;
-    clients = calm.clients;
-    whole = calm.whole;
-    jobs = calm.jobs;
-  })
+  weaker limits more budget greater world up high (done, rest, calm) = (
+    done,
+    rest,
+    record {
+      queue = calm.queue;
+      few_sent = calm.few_sent;
+      weighs = omega (arith, calm.weighs, high);
+      stamping = calm.stamping;
+      stampings = calm.stampings;
+      epoch = calm.epoch;
+      counters = calm.counters;
+      fine = calm.fine;
+      cells = calm.cells;
+      few = λ shard. (let was = calm.few shard in let le = up shard in omega (arith, was, le));
+      first_up = calm.first_up;
+      clients = calm.clients;
+      whole = calm.whole;
+      jobs = calm.jobs;
+    },
+  )
 
   submit_calm : (limits : ShardId → ℕ) (budget : ℕ) (world : WorldState) (client : ClientId) (ops : List Op) → is_calm (Event.Submit client ops) ≡ true → IsAccepted config world (Event.Submit client ops)
       → IsCalm config limits budget world → IsCalm config limits (budget + packets_for config (Event.Submit client ops)) (happens config world (Event.Submit client ops))

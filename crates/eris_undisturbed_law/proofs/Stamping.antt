@@ -1,11 +1,10 @@
 -- AN ASK COMES to the sequencer: it stamps the transaction with the next numbers of its shards, and sends the packet to
 -- each of their replicas.
-use Rattle.std.proofs.Common.{◌≡◌, ◌≤◌, ◌<◌, ◌+◌, ◌*◌, ◌^◌, ◌-◌, ◌⊎◌, inl, inr, ℕ, zero, suc, Bool, true, false, not, cond, ◌==◌, ◌||◌, ◌&&◌, nat_lt, Option, Some, None, is_some, List, [], ◌∷◌, ◌++◌, map, length, refl, ap, sym, ◌∙◌, subst, arith, append-nil, length-append}
+use Rattle.std.proofs.Common.{◌≡◌, ◌≤◌, ◌<◌, ◌+◌, ◌*◌, ◌^◌, ◌-◌, inl, inr, ℕ, zero, suc, Bool, true, false, cond, ◌==◌, ◌||◌, nat_lt, Option, Some, None, List, [], ◌∷◌, ◌++◌, map, length, refl, ap, sym, ◌∙◌, subst, arith, length-append}
 use Rattle.std.proofs.lemmas.List.{length-map}
 use Rattle.std.proofs.Math.Nat.{suc-mul}
 use Rattle.std.proofs.lemmas.Bool.{and_from, and_parts, cond-false, cond-true, eq-eqb, eqb-true, lt-ltb, ltb-true, ne_eqb, or_from}
 use Rattle.std.specs.List.{flat_map, list_all, list_any, range_with_len}
-use Rattle.eris_base.specs.declared.ids.Epoch.{Epoch}
 use Rattle.eris_base.specs.declared.ids.Node.TheVariants.{Client, Replica, Sequencer}
 use Rattle.eris_base.specs.declared.ids.Phase.{Phase}
 use Rattle.eris_txn.specs.declared.answer.Answer.{Answer}
@@ -16,19 +15,18 @@ use Rattle.eris_base.specs.declared.stamp.Stamp.{Stamp}
 use Rattle.eris_base.specs.ConfigLimits.{ConfigValue}
 use Rattle.eris_base.specs.Each.{Each}
 use Rattle.eris_base.proofs.Each.{Each-append}
-use Rattle.eris_txn.specs.declared.body.Body.{Body}
 use Rattle.eris_txn.specs.declared.body.Body.TheVariants.{Independent}
 use Rattle.eris_txn.specs.declared.history.HistoryEvent.{HistoryEvent}
 use Rattle.eris_txn.specs.declared.key.Key.{Key}
 use Rattle.eris_txn.specs.declared.op.Op.{Op}
 use Rattle.eris_txn.specs.declared.packet.Packet.{Packet}
-use Rattle.eris_txn.specs.Bodies.{any_on, has_shard, shards_of}
+use Rattle.eris_txn.specs.Bodies.{any_on, has_shard}
 use Rattle.eris_txn.specs.Operations.{key_of}
 use Rattle.eris_txn.proofs.BodyLaws.{has_shard-shards_of, shards_of-some}
 use Rattle.eris_msg.specs.declared.message.Message.{Message}
 use Rattle.eris_msg.specs.declared.outgoing.Outgoing.{Outgoing}
 use Rattle.eris_sequencer.specs.declared.stamping.Stamping.{Stamping}
-use Rattle.eris_sequencer.specs.Asks.{Asked, ask, asked_by, sends_of, sends_stamped, sends_to, stamp_message}
+use Rattle.eris_sequencer.specs.Asks.{ask, asked_by, sends_of, sends_stamped, sends_to, stamp_message}
 use Rattle.eris_sequencer.specs.Sequencers.{are_shards_of, is_in_place, stamp, stamp_at, stamp_by}
 use Rattle.eris_sequencer.specs.Stamps.{AreRaised, after_stamp, counter_of, has_counters, is_full, next_packet, next_places, next_stamp, stamped_next, with_numbers}
 use Rattle.eris_sequencer.proofs.StampLaws.{AreRaised-next}
@@ -36,13 +34,12 @@ use Rattle.eris_rules.specs.declared.transaction.Vote.{Vote}
 use Rattle.eris_rules.specs.Addressees.{replica_count}
 use Rattle.eris_rules.specs.Happenings.{after_sequencer}
 use Rattle.eris_rules.specs.InPlace.{names_exactly}
-use Rattle.eris_rules.specs.Known.{knows_keys, knows_pairs, knows_shard}
-use Rattle.eris_rules.specs.ReplicaStates.{ReplicaState}
+use Rattle.eris_rules.specs.Known.{knows_keys, knows_pairs}
 use Rattle.eris_rules.specs.Worlds.{WorldState, no_longer_waiting, with_sends}
 use Rattle.eris_client_law.specs.Counts.{message_of, message_with}
 use Rattle.eris_epoch_law.specs.Members.{In}
-use Rattle.eris_epoch_law.proofs.Members.{Each-by_In, Each-flat_map, In-left, In-right, any_from, any_witness}
-use Rattle.eris_undisturbed_law.proofs.Calm.{Carries, Coming, Down, Fine, Heard, IsCalmWorld, IsCarried, IsCell, IsJob, NumberedFrom, Said, Spread, Stage, Unstamped, Way, asking, packet_of, shards_of_ops, weigh, weight}
+use Rattle.eris_epoch_law.proofs.Members.{Each-by_In, Each-flat_map, In-left, In-right, any_from}
+use Rattle.eris_undisturbed_law.proofs.Calm.{Carries, Coming, Fine, IsCalmWorld, IsCarried, IsCell, IsJob, NumberedFrom, Spread, Way, asking, packet_of, shards_of_ops, weigh, weight}
 use Rattle.eris_undisturbed_law.proofs.Moving.{Brings, job_kept, numbered_more, reads_itself, way_next}
 use Rattle.eris_undisturbed_law.proofs.Queues.{queue_more, queue_next}
 use Rattle.eris_undisturbed_law.proofs.Sending.{carrying, coming, is_to, packet_in, coming-append, coming_sent, next_known, next_names, next_number, sent_to}

@@ -1,5 +1,5 @@
 -- AT THE START nothing was sent, and every replica has nothing.
-use Rattle.std.proofs.Common.{◌≡◌, ◌≤◌, ◌<◌, ◌+◌, ℕ, zero, suc, Bool, true, false, Option, Some, None, List, [], ◌∷◌, map, length, replicate, refl, ap, sym, ◌∙◌, arith}
+use Rattle.std.proofs.Common.{◌≡◌, ◌<◌, ◌+◌, ℕ, zero, suc, true, Some, [], map, replicate, refl, ap, ◌∙◌, arith}
 use Rattle.std.proofs.lemmas.Bool.{ltb-true}
 use Rattle.std.proofs.lemmas.List.{length-replicate}
 use Rattle.std.specs.List.{range_with_len}
@@ -14,7 +14,7 @@ use Rattle.eris_sequencer.specs.Stamps.{counter_of, new_sequencer}
 use Rattle.eris_rules.specs.Addressees.{replica_count}
 use Rattle.eris_rules.specs.ClientStates.{ClientState, first_client}
 use Rattle.eris_rules.specs.Known.{knows_client}
-use Rattle.eris_rules.specs.ReplicaStates.{ReplicaState, begun, first_state, fresh}
+use Rattle.eris_rules.specs.ReplicaStates.{begun, first_state, fresh}
 use Rattle.eris_rules.specs.Worlds.{client_at, first_replicas, first_world, in_row, replica_at}
 use Rattle.eris_undisturbed_law.proofs.Calm.{IsCalm, IsCell}
 use Rattle.eris_undisturbed_law.proofs.Receiving.{state_after}
@@ -59,19 +59,23 @@ module _ (config : ConfigValue) where
 
   pub calm_start : IsCalm config (λ shard. 0) 0 (first_world config)
   unfolding first_world first_stampings new_stamping new_sequencer
-  calm_start = ([], [], record {
-    queue = record { sent_is = refl; waiting_is = refl };
-    few_sent = omega arith;
-    weighs = omega arith;
-    stamping = new_stamping config (record { 0 = 0 });
-    stampings = refl;
-    epoch = refl;
-    counters = length-replicate config.shards 0;
-    fine = tt;
-    cells = first_cell;
-    few = λ shard. omega arith;
-    first_up = λ shard. refl;
-    clients = first_clients;
-    whole = λ id txn i. absurd i;
-    jobs = λ id ops i. absurd i;
-  })
+  calm_start = (
+    [],
+    [],
+    record {
+      queue = record { sent_is = refl; waiting_is = refl };
+      few_sent = omega arith;
+      weighs = omega arith;
+      stamping = new_stamping config (record { 0 = 0 });
+      stampings = refl;
+      epoch = refl;
+      counters = length-replicate config.shards 0;
+      fine = tt;
+      cells = first_cell;
+      few = λ shard. omega arith;
+      first_up = λ shard. refl;
+      clients = first_clients;
+      whole = λ id txn i. absurd i;
+      jobs = λ id ops i. absurd i;
+    },
+  )

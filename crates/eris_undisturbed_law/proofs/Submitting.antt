@@ -1,15 +1,14 @@
 -- A CLIENT SUBMITS a transaction, and a replica crashes: what holds at every moment holds after it.
-use Rattle.std.proofs.Common.{◌≡◌, ◌≤◌, ◌<◌, ◌+◌, ◌*◌, ◌-◌, ◌⊎◌, inl, inr, ℕ, zero, suc, Bool, true, false, not, cond, ◌==◌, ◌||◌, ◌&&◌, nat_lt, Option, Some, None, is_some, List, [], ◌∷◌, ◌++◌, map, length, refl, ap, sym, ◌∙◌, subst, arith, append-nil, length-append}
-use Rattle.std.proofs.lemmas.Bool.{and_right, cases_Bool, eqb-true, false_from_ne_true, ltb-true, ne_eqb, or_from, or_parts}
+use Rattle.std.proofs.Common.{◌≡◌, ◌≤◌, ◌<◌, ◌+◌, ◌*◌, ◌⊎◌, inl, inr, ℕ, Bool, true, false, not, cond, ◌==◌, ◌||◌, ◌&&◌, nat_lt, Some, None, List, [], ◌∷◌, ◌++◌, map, length, refl, ap, sym, ◌∙◌, subst, arith, append-nil}
+use Rattle.std.proofs.lemmas.Bool.{and_right, false_from_ne_true, ltb-true, ne_eqb, or_from, or_parts}
 use Rattle.std.proofs.lemmas.List.{length-map}
-use Rattle.std.specs.List.{list_all, list_any, range_with_len}
+use Rattle.std.specs.List.{list_all}
 use Rattle.std.specs.Prelude.{slice_set}
 use Rattle.eris_base.specs.declared.ids.ClientId.{ClientId}
 use Rattle.eris_base.specs.declared.ids.ReplicaId.{ReplicaId}
 use Rattle.eris_base.specs.declared.ids.ShardId.{ShardId}
 use Rattle.eris_base.specs.declared.ids.TxnId.{TxnId}
 use Rattle.eris_base.specs.ConfigLimits.{ConfigValue}
-use Rattle.eris_base.specs.Each.{Each}
 use Rattle.eris_base.specs.TxnIds.{same_id}
 use Rattle.eris_base.proofs.Each.{Each-append}
 use Rattle.eris_base.proofs.TxnIdLaws.{same_id-true}
@@ -24,23 +23,21 @@ use Rattle.eris_msg.specs.declared.outgoing.Outgoing.{Outgoing}
 use Rattle.eris_rules.specs.declared.refusal.Refusal.{Refusal}
 use Rattle.eris_rules.specs.declared.transaction.Course.TheVariants.{Executing}
 use Rattle.eris_rules.specs.declared.transaction.Transaction.{Transaction}
-use Rattle.eris_rules.specs.declared.transaction.Vote.{Vote}
 use Rattle.eris_rules.specs.Addressees.{replica_count}
 use Rattle.eris_rules.specs.ClientStates.{ClientIdentity, ClientOut, ClientState, begun_half, next_id, transaction_at, with_transaction}
 use Rattle.eris_rules.specs.Clients.{begins_half, submit}
 use Rattle.eris_rules.specs.Happenings.{after_client, client_acts, client_acts_by}
 use Rattle.eris_rules.specs.Known.{knows_client, knows_keys}
 use Rattle.eris_rules.specs.Refusals.{submit_cause}
-use Rattle.eris_rules.specs.ReplicaStates.{ReplicaState}
 use Rattle.eris_rules.specs.Votes.{is_complete, is_counted}
-use Rattle.eris_rules.specs.Worlds.{WorldState, client_at, with_event, with_sends}
+use Rattle.eris_rules.specs.Worlds.{WorldState, client_at, with_sends}
 use Rattle.eris_client_law.proofs.Entries.{found_other, found_put}
 use Rattle.eris_epoch_law.specs.Members.{In}
 use Rattle.eris_epoch_law.proofs.Members.{In-append, In-left, In-right}
 use Rattle.eris_undisturbed_law.proofs.Answering.{client_put, clients_still, reads_past}
-use Rattle.eris_undisturbed_law.proofs.Calm.{Asks, Fine, IsCalmWorld, IsCell, IsJob, Job, Lives, NumberedFrom, Open, Submitted, Unstamped, Way, asking, shards_of_ops, weigh}
+use Rattle.eris_undisturbed_law.proofs.Calm.{Asks, Fine, IsCalmWorld, IsCell, IsJob, Job, NumberedFrom, Open, Submitted, Unstamped, asking, shards_of_ops}
 use Rattle.eris_undisturbed_law.proofs.Majorities.{how_many_down, is_down, one_if}
-use Rattle.eris_undisturbed_law.proofs.Moving.{Keeps, all_fine, job_kept, job_still, lives_still, reads_itself, way_kept}
+use Rattle.eris_undisturbed_law.proofs.Moving.{Keeps, all_fine, job_kept, lives_still, reads_itself, way_kept}
 use Rattle.eris_undisturbed_law.proofs.Queues.{queue_more}
 use Rattle.eris_undisturbed_law.proofs.Sending.{coming, coming-append}
 use Rattle.eris_undisturbed_law.proofs.Stamping.{weigh-append}

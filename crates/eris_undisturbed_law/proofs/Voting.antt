@@ -1,15 +1,14 @@
 -- A CLIENT COUNTS A SHARD as soon as its votes make an answer, and a majority's votes for one stamp in view 0, the
 -- learner's answer among them, make one. Used where votes come, and where all have come.
-use Rattle.std.proofs.Common.{◌≡◌, ◌≤◌, ◌<◌, ◌+◌, ◌*◌, ◌⊎◌, inl, inr, ℕ, zero, suc, Bool, true, false, not, cond, ◌==◌, ◌||◌, ◌&&◌, Option, Some, None, is_some, List, [], ◌∷◌, ◌++◌, map, refl, ap, sym, ◌∙◌, subst, arith}
-use Rattle.std.proofs.lemmas.Bool.{and_parts, and_from, cases_Bool, cond_both, cond-true, eq-eqb, eqb-true, lt-ltb, or_cases, or_left, or_right}
+use Rattle.std.proofs.Common.{◌≡◌, ◌≤◌, ◌<◌, ◌+◌, ◌*◌, ◌⊎◌, inl, inr, ℕ, Bool, true, false, cond, ◌==◌, ◌&&◌, Option, Some, None, is_some, List, [], ◌∷◌, ◌++◌, map, refl, ap, sym, ◌∙◌, subst, arith}
+use Rattle.std.proofs.lemmas.Bool.{and_parts, and_from, cond_both, cond-true, eq-eqb, eqb-true, lt-ltb, or_cases, or_left, or_right}
 use Rattle.std.specs.List.{filter, list_all, list_any}
 use Rattle.std.specs.Option.{option_or}
-use Rattle.std.specs.Set.{is_member}
 use Rattle.eris_base.specs.declared.ids.ReplicaId.{ReplicaId}
 use Rattle.eris_base.specs.declared.ids.ShardId.{ShardId}
 use Rattle.eris_base.specs.declared.ids.View.{View}
 use Rattle.eris_base.specs.declared.stamp.Stamp.{Stamp}
-use Rattle.eris_base.specs.Quorums.{are_quorum, same_replica}
+use Rattle.eris_base.specs.Quorums.{same_replica}
 use Rattle.eris_txn.specs.declared.answer.Answer.{Answer}
 use Rattle.eris_txn.specs.declared.body.Body.TheVariants.{Independent}
 use Rattle.eris_txn.specs.declared.packet.Packet.{Packet}
@@ -189,10 +188,10 @@ majority_counts f votes counted shard stamp down counts few up each =
     let first = each 0 (omega arith) up in
     let learners = vote_by shard (record { 0 = 0 }) stamp first.found in
     let among = λ (r : ℕ) (low : r < 2 * f + 1) (lives : is_down down shard.0 r ≡ false).
-        let one = each r low lives in
-        any_from (same_replica (record { 0 = r })) (map (λ (v : Vote). v.replica) (votes_with votes learners)) (record { 0 = r })
-        (mapped (votes_with votes learners) (vote_by shard (record { 0 = r }) stamp one.found) (passing (agrees_with learners) votes _ one.there (agree shard stamp r one.found first.found)))
-        (eq-eqb r r refl) in
+    let one = each r low lives in
+    any_from (same_replica (record { 0 = r })) (map (λ (v : Vote). v.replica) (votes_with votes learners)) (record { 0 = r })
+    (mapped (votes_with votes learners) (vote_by shard (record { 0 = r }) stamp one.found) (passing (agrees_with learners) votes _ one.there (agree shard stamp r one.found first.found)))
+    (eq-eqb r r refl) in
     let most = majority down shard.0 f (map (λ (v : Vote). v.replica) (votes_with votes learners)) few among in
     let made = some_first (votes_with votes learners) learners (passing (agrees_with learners) votes learners first.there (agrees_itself learners)) (first.learner refl) in
     counts.at learners made.0 first.there (cond-true _ _ _ (lt-ltb f _ most) ∙ made.1)

@@ -96,3 +96,18 @@ pub record IsText (bytes : List ℕ) (config : ConfigValue) (said : List Line) :
   pub cut : lines bytes ≡ first ∷ texts
   pub headed : header_of first ≡ Ok (record { version = version; config = config })
   pub says : Say version texts said
+
+-- AN UNDISTURBED SCRIPT, by its bytes
+pub record IsUndisturbedScript (bytes : List ℕ) : Type 0 where
+  pub config : ConfigValue
+  pub said : List Line
+  pub text : IsText bytes config said
+  pub undisturbed : AreUndisturbed config said
+
+-- and a script whose first lines are such
+pub record BeginsUndisturbed (bytes : List ℕ) : Type 0 where
+  pub config : ConfigValue
+  pub said : List Line
+  pub more : List Line
+  pub text : IsText bytes config (said ++ more)
+  pub undisturbed : AreUndisturbed config said

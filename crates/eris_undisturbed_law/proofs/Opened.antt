@@ -1,0 +1,91 @@
+-- All definitions that an example computes with.
+use Rattle.std.specs.Prelude.{ℕ}
+use Rattle.eris_base.specs.TxnIds as base_txn_ids
+use Rattle.eris_drop.specs.Notes as drop_notes
+use Rattle.eris_drop.specs.Requests as drop_requests
+use Rattle.eris_epoch.specs.Closing as epoch_closing
+use Rattle.eris_epoch.specs.EpochTallies as epoch_epoch_tallies
+use Rattle.eris_epoch.specs.SamePackets as epoch_same_packets
+use Rattle.eris_epoch.specs.Sorting as epoch_sorting
+use Rattle.eris_locks.specs.Locks as locks_locks
+use Rattle.eris_log.specs.Entries as log_entries
+use Rattle.eris_log.specs.Held as log_held
+use Rattle.eris_log.specs.Parts as log_parts
+use Rattle.eris_log.specs.Places as log_places
+use Rattle.eris_log.specs.Sorted as log_sorted
+use Rattle.eris_msg.specs.Fields as msg_fields
+use Rattle.eris_msg.specs.Messages as msg_messages
+use Rattle.eris_msg.specs.Parts as msg_parts
+use Rattle.eris_rules.specs.Addressees as rules_addressees
+use Rattle.eris_rules.specs.ClientStates as rules_client_states
+use Rattle.eris_rules.specs.Clients as rules_clients
+use Rattle.eris_rules.specs.CoordStates as rules_coord_states
+use Rattle.eris_rules.specs.Coordinators as rules_coordinators
+use Rattle.eris_rules.specs.EpochCoords as rules_epoch_coords
+use Rattle.eris_rules.specs.EpochReplicas as rules_epoch_replicas
+use Rattle.eris_rules.specs.Good as rules_good
+use Rattle.eris_rules.specs.Happenings as rules_happenings
+use Rattle.eris_rules.specs.InPlace as rules_in_place
+use Rattle.eris_rules.specs.Known as rules_known
+use Rattle.eris_rules.specs.Refusals as rules_refusals
+use Rattle.eris_rules.specs.ReplicaAnswers as rules_replica_answers
+use Rattle.eris_rules.specs.ReplicaStates as rules_replica_states
+use Rattle.eris_rules.specs.Replicas as rules_replicas
+use Rattle.eris_rules.specs.Reports as rules_reports
+use Rattle.eris_rules.specs.Runs as rules_runs
+use Rattle.eris_rules.specs.Settling as rules_settling
+use Rattle.eris_rules.specs.Speaking as rules_speaking
+use Rattle.eris_rules.specs.Views as rules_views
+use Rattle.eris_rules.specs.Votes as rules_votes
+use Rattle.eris_rules.specs.WorldOrders as rules_world_orders
+use Rattle.eris_rules.specs.Worlds as rules_worlds
+use Rattle.eris_sequencer.specs.Asks as sequencer_asks
+use Rattle.eris_sequencer.specs.Sequencers as sequencer_sequencers
+use Rattle.eris_sequencer.specs.Stamps as sequencer_stamps
+use Rattle.eris_txn.specs.Keys as txn_keys
+use Rattle.eris_view.specs.AckTallies as view_ack_tallies
+use Rattle.eris_view.specs.ViewTallies as view_view_tallies
+
+unfoldable pub of_base : ℕ
+unfolding base_txn_ids.same_id
+of_base = 0
+
+unfoldable pub of_txn : ℕ
+unfolding txn_keys.same_key
+of_txn = 0
+
+unfoldable pub of_log : ℕ
+unfolding log_entries.all_found log_entries.is_dropped log_entries.is_txn log_entries.entry_of log_entries.is_gap log_entries.reach log_entries.length_of log_entries.is_covered log_entries.covers log_entries.holder_of log_held.packet_at log_held.with_packet log_held.with_packets log_parts.empty_part log_parts.hold_at log_parts.hold log_parts.mark_temp log_parts.mark_found log_parts.mark_dropped log_parts.merge log_places.same_place log_places.contains_place log_places.with_place log_places.with_places log_places.places_of log_places.any_among log_sorted.item_at log_sorted.placed log_sorted.with_item log_sorted.union log_sorted.items_from log_sorted.head_at
+of_log = 0
+
+unfoldable pub of_locks : ℕ
+unfolding locks_locks.conflict
+of_locks = 0
+
+unfoldable pub of_drop : ℕ
+unfolding drop_notes.same_note drop_notes.has_note drop_notes.note drop_notes.forget drop_notes.is_noted_in drop_notes.is_drop_quorum drop_notes.has_drop_quorum drop_notes.decided drop_requests.is_known drop_requests.answer_by drop_requests.answer_request
+of_drop = 0
+
+unfoldable pub of_view : ℕ
+unfolding view_ack_tallies.no_acks view_ack_tallies.with_ack view_ack_tallies.note_length view_ack_tallies.how_many_have view_ack_tallies.quorum_has view_ack_tallies.greatest view_ack_tallies.settled view_view_tallies.no_parts view_view_tallies.with_part view_view_tallies.note_part view_view_tallies.is_ready view_view_tallies.union_of
+of_view = 0
+
+unfoldable pub of_epoch : ℕ
+unfolding epoch_closing.held_of epoch_closing.held_in epoch_closing.undropped epoch_closing.with_new epoch_closing.each_once epoch_closing.by_places epoch_closing.close epoch_closing.shard_log epoch_epoch_tallies.no_notes epoch_epoch_tallies.with_noted epoch_epoch_tallies.note_state epoch_epoch_tallies.replicas_of epoch_epoch_tallies.is_heard epoch_epoch_tallies.are_heard epoch_epoch_tallies.is_ready epoch_same_packets.same_list epoch_same_packets.same_op epoch_same_packets.same_mode epoch_same_packets.same_lock epoch_same_packets.same_write epoch_same_packets.same_body epoch_same_packets.same_place_on epoch_same_packets.same_stamp epoch_same_packets.same_packet epoch_same_packets.is_listed epoch_sorting.sorted
+of_epoch = 0
+
+unfoldable pub of_msg : ℕ
+unfolding msg_fields.byte msg_fields.word msg_fields.value msg_fields.from_to msg_fields.number msg_fields.shard msg_fields.replica msg_fields.client msg_fields.epoch msg_fields.view msg_fields.phase msg_fields.id msg_fields.place msg_fields.shard_before msg_fields.stamp_place msg_fields.stamp msg_fields.name msg_fields.key msg_fields.spell_op msg_fields.op_fits msg_fields.op_behind msg_fields.op msg_fields.ops msg_fields.keys msg_fields.mode msg_fields.lock msg_fields.locks msg_fields.write msg_fields.writes msg_fields.spell_body msg_fields.body_fits msg_fields.body_behind msg_fields.body msg_fields.packet msg_fields.packets msg_fields.spell_op_answer msg_fields.op_answer_fits msg_fields.op_answer_behind msg_fields.op_answer msg_fields.op_answers msg_fields.spell_found msg_fields.found_fits msg_fields.found_behind msg_fields.found msg_fields.values msg_fields.spell_answer msg_fields.answer_fits msg_fields.answer_behind msg_fields.answer msg_messages.ask msg_messages.vouch msg_messages.reply msg_messages.late msg_messages.find msg_messages.temp_dropped msg_messages.view_change msg_messages.start_view msg_messages.sync_ask msg_messages.ack msg_messages.settled msg_messages.new_epoch msg_messages.epoch_state msg_messages.start_epoch msg_messages.spell_kind msg_messages.kind_fits msg_messages.kind_behind msg_messages.message msg_parts.listed_place msg_parts.places msg_parts.held_packet msg_parts.held msg_parts.places_at msg_parts.pairs_of msg_parts.part_of_epoch msg_parts.part
+of_msg = 0
+
+unfoldable pub of_sequencer : ℕ
+unfolding sequencer_asks.sends_to sequencer_asks.sends_of sequencer_asks.sends_stamped sequencer_asks.stamp_message sequencer_asks.asked_by sequencer_asks.ask sequencer_sequencers.new_stamping sequencer_sequencers.first_stampings sequencer_sequencers.newest_of sequencer_sequencers.replace sequencer_sequencers.packets_of sequencer_sequencers.stamped_in sequencer_sequencers.are_shards_of sequencer_sequencers.is_in_place sequencer_sequencers.stamp_at sequencer_sequencers.no_stamp sequencer_sequencers.stamp_by sequencer_sequencers.stamp sequencer_stamps.new_sequencer sequencer_stamps.counter_of sequencer_stamps.next_places sequencer_stamps.with_numbers sequencer_stamps.is_full sequencer_stamps.has_counters sequencer_stamps.next_stamp sequencer_stamps.next_packet sequencer_stamps.after_stamp sequencer_stamps.stamped_next
+of_sequencer = 0
+
+unfoldable pub of_rules : ℕ
+unfolding rules_addressees.shard_replicas rules_addressees.all_replicas rules_addressees.other_replicas rules_client_states.first_client rules_client_states.transaction_at rules_client_states.with_transaction rules_client_states.begun_half rules_clients.begins_half rules_clients.submit rules_clients.asks_again rules_clients.retry rules_clients.abort rules_clients.finishes rules_clients.all_op_answers rules_clients.all_values rules_clients.is_executed rules_clients.concludes rules_clients.has_read rules_clients.has_concluded rules_clients.is_told rules_clients.goes_on rules_clients.hears_vote_of rules_clients.vote_row rules_clients.hears_late_of rules_clients.late_row rules_clients.client_step rules_coord_states.nothing_asked rules_coord_states.begun_epoch rules_coord_states.first_coordinator rules_coordinators.coord_steps_in rules_coordinators.starts rules_coordinators.takes_elsewhere rules_coordinators.coord_takes_inner rules_coordinators.raises_target rules_coordinators.new_epoch_above rules_coordinators.new_epoch_row rules_coordinators.left_behind rules_coordinators.after_closing rules_coordinators.starts_shard rules_coordinators.starts_all rules_coordinators.closes rules_coordinators.tests_closing rules_coordinators.notes_state rules_coordinators.epoch_state_late rules_coordinators.epoch_state_row rules_coordinators.coord_takes rules_coordinators.coord_message_step rules_coordinators.nudge_step rules_coordinators.coord_step rules_epoch_coords.finder_of rules_epoch_coords.tells_found rules_epoch_coords.tells_dropped rules_epoch_coords.asks_all rules_epoch_coords.asks_new rules_epoch_coords.finds_lost rules_epoch_coords.find_row rules_epoch_coords.all_hear_dropped rules_epoch_coords.keeps_found rules_epoch_coords.drops_rest rules_epoch_coords.has_wanted rules_epoch_coords.has_row rules_epoch_coords.drops_place rules_epoch_coords.drops_decided rules_epoch_coords.notes_drop rules_epoch_coords.temp_dropped_row rules_epoch_coords.nudge_row rules_epoch_replicas.has_spoken_for rules_epoch_replicas.speaks_again rules_epoch_replicas.holds_packet rules_epoch_replicas.txn_at rules_epoch_replicas.txn_row rules_epoch_replicas.drops_for_a_time rules_epoch_replicas.request_row rules_epoch_replicas.found_row rules_epoch_replicas.dropped_row rules_epoch_replicas.probe_normal rules_epoch_replicas.probe_changing rules_epoch_replicas.probe_row rules_epoch_replicas.epoch_step rules_good.kept_at rules_good.kept_upto rules_good.settled_log rules_happenings.after_replica rules_happenings.replica_takes rules_happenings.after_coordinator rules_happenings.coordinator_takes rules_happenings.after_sequencer rules_happenings.sequencer_takes rules_happenings.after_client rules_happenings.client_acts rules_happenings.delivers rules_happenings.submitted_at rules_happenings.happens rules_in_place.names_exactly rules_in_place.all_name_participants rules_in_place.is_right_part rules_in_place.all_name_shard rules_in_place.ascend_on rules_in_place.all_below rules_in_place.is_sound rules_in_place.is_in_place_at_replica rules_in_place.is_in_place_at_coordinator rules_in_place.is_in_place_at_client rules_known.knows_pairs rules_known.knows_places rules_known.knows_keys rules_known.knows_writes rules_known.knows_body rules_known.knows_packet rules_known.knows_packets rules_known.knows_held rules_known.knows_part rules_known.knows_all rules_refusals.submit_cause rules_refusals.retry_cause rules_refusals.abort_cause rules_refusals.delivery_cause rules_refusals.timer_cause rules_refusals.is_message rules_refusals.noise_cause rules_refusals.cause rules_refusals.frame_size rules_refusals.frame_sizes rules_refusals.limit_met rules_refusals.refusal rules_replica_answers.open_at rules_replica_answers.open_upto rules_replica_answers.log_upto rules_replica_answers.store_after rules_replica_answers.store_answers rules_replica_answers.prompt_answer rules_replica_answers.answer_after rules_replica_answers.is_late_above rules_replica_answers.late_answers rules_replica_states.fresh rules_replica_states.begun rules_replica_states.first_state rules_replicas.steps_in rules_replicas.steps rules_replicas.asks_start rules_replicas.later_txn rules_replicas.takes_inner rules_replicas.may_promise rules_replicas.promises rules_replicas.epoch_ask_row rules_replicas.may_begin rules_replicas.start_epoch_row rules_replicas.takes rules_replicas.message_step rules_replicas.probe_step rules_replicas.timer_step rules_replicas.replica_step rules_reports.line_state rules_reports.replica_line rules_reports.shard_lines rules_reports.all_lines rules_reports.report_of rules_runs.world_after rules_runs.run_from rules_runs.run rules_settling.shared_number rules_settling.tells_late rules_settling.tells_settled rules_settling.settles rules_settling.raises rules_settling.enters_above rules_settling.acknowledges rules_settling.sync_ask_same rules_settling.sync_ask_row rules_settling.notes_ack rules_settling.ack_row rules_settling.mark_all_dropped rules_settling.learns rules_settling.hears_settled rules_settling.settled_same rules_settling.settled_row rules_settling.repeats_settled rules_settling.raises_or_repeats rules_settling.also_asks rules_settling.sync_row rules_speaking.speaks_of rules_speaking.speaks_for rules_speaking.speaks_at rules_speaking.speaks_after rules_speaking.speaks_on rules_speaking.holds_from rules_speaking.has_gap rules_speaking.asks_gap rules_speaking.asks_once rules_speaking.tail rules_views.entered rules_views.became_normal rules_views.shows_part rules_views.starts_view rules_views.tests_view rules_views.enters_view rules_views.suspect_row rules_views.notes_part rules_views.tells_view rules_views.view_change_same rules_views.view_change_shown rules_views.view_change_row rules_views.takes_view rules_views.start_view_row rules_votes.vote_fits rules_votes.late_fits rules_votes.waits_for rules_votes.agrees_with rules_votes.answer_by_votes rules_votes.with_counted rules_votes.with_vote rules_votes.with_late rules_votes.is_complete rules_world_orders.stamping_list rules_world_orders.is_held_by rules_world_orders.is_held_in rules_world_orders.survives_now rules_world_orders.survives rules_world_orders.order rules_world_orders.lines_of_world rules_world_orders.order_on rules_worlds.first_replicas rules_worlds.first_world rules_worlds.replica_at rules_worlds.with_replica rules_worlds.client_at rules_worlds.has_crashed rules_worlds.with_sends rules_worlds.no_longer_waiting
+of_rules = 0
+
+unfoldable pub all_rules : ℕ
+unfolding of_base of_txn of_log of_locks of_drop of_view of_epoch of_msg of_sequencer of_rules
+all_rules = 0
