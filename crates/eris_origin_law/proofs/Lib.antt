@@ -1,0 +1,2 @@
+pub mod NewStamps
+pub mod Packets
