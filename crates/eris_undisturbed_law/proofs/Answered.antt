@@ -23,13 +23,15 @@ use Rattle.eris_rules.specs.Votes.{is_complete, is_counted}
 use Rattle.eris_rules.specs.Worlds.{WorldState, first_world}
 use Rattle.eris_epoch_law.specs.Members.{In}
 use Rattle.eris_epoch_law.proofs.Members.{any_from}
-use Rattle.eris_undisturbed_law.specs.Undisturbed.{AreAnswered, IsAnswered, IsUndisturbed, crashes, is_calm, packets_for_all}
-use Rattle.eris_undisturbed_law.proofs.Calm.{Coming, Done, Down, Heard, IsCalm, IsCalmWorld, IsOpen, Job, Open, Progress, Said, Spread, Stage, Unstamped, Way, shards_of_ops, weight}
+use Rattle.eris_calm_law.specs.Calm.{Coming, Done, Down, Heard, IsAnswered, IsCalm, IsCalmWorld, IsOpen, Job, Open, Progress, Said, Spread, Stage, Unstamped, Way, shards_of_ops, weight}
+use Rattle.eris_calm_law.specs.Crashes.{is_down}
+use Rattle.eris_calm_law.specs.Noted.{HasVote}
+use Rattle.eris_calm_law.proofs.Starting.{calm_start}
+use Rattle.eris_calm_law.proofs.Voting.{all_pass, majority_counts}
+use Rattle.eris_calm_step_law.specs.CalmEvents.{is_calm}
+use Rattle.eris_undisturbed_law.specs.Undisturbed.{AreAnswered, IsUndisturbed, crashes, packets_for_all}
 use Rattle.eris_undisturbed_law.proofs.Growing.{run_grows}
-use Rattle.eris_undisturbed_law.proofs.Majorities.{is_down}
 use Rattle.eris_undisturbed_law.proofs.Running.{flows_calm, run_calm, run_parts, submissions_stand}
-use Rattle.eris_undisturbed_law.proofs.Starting.{calm_start}
-use Rattle.eris_undisturbed_law.proofs.Voting.{HasVote, all_pass, majority_counts}
 
 some_weight : (config : ConfigValue) (message : Message) → 1 ≤ weight config message
 some_weight config (Message.Ask asker id body) = omega arith

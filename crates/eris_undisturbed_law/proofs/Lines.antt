@@ -12,7 +12,8 @@ use Rattle.eris_script.specs.LineForms.{line_of}
 use Rattle.eris_script.specs.Scripts.{BadLine, Script, events_from, events_of, script, script_in, with_config, with_events}
 use Rattle.eris_rules.specs.Runs.{run}
 use Rattle.eris_rules.specs.Worlds.{WorldState}
-use Rattle.eris_undisturbed_law.specs.Undisturbed.{AreAnswered, AreUndisturbed, BeginsUndisturbed, IsText, IsUndisturbed, IsUndisturbedScript, Say, is_calm, is_calm_line}
+use Rattle.eris_calm_step_law.specs.CalmEvents.{is_calm}
+use Rattle.eris_undisturbed_law.specs.Undisturbed.{AreAnswered, AreUndisturbed, BeginsUndisturbed, IsText, IsUndisturbed, IsUndisturbedScript, Say, is_calm_line}
 use Rattle.eris_undisturbed_law.proofs.Answered.{first_answers, undisturbed_answers}
 
 -- ---- events of lines

@@ -18,17 +18,18 @@ use Rattle.eris_rules.specs.ClientStates.{next_id}
 use Rattle.eris_rules.specs.Clients.{begins_half, submit}
 use Rattle.eris_epoch_law.specs.Members.{In}
 use Rattle.eris_epoch_law.proofs.Members.{In-right}
-use Rattle.eris_undisturbed_law.proofs.Growing.{run_grows}
 use Rattle.eris_rules.specs.Happenings.{after_client, happens}
 use Rattle.eris_rules.specs.Refusals.{cause, frame_sizes, limit_met, refusal}
 use Rattle.eris_rules.specs.Runs.{run_from, taken_by, world_after}
 use Rattle.eris_rules.specs.Worlds.{WorldState, with_sends}
 use Rattle.eris_agreement.proofs.Moments.{taken}
-use Rattle.eris_undisturbed_law.specs.Undisturbed.{crashes, crashes_on, is_calm, packets_for, packets_for_all}
-use Rattle.eris_undisturbed_law.proofs.Calm.{IsCalm, Submitted}
-use Rattle.eris_undisturbed_law.proofs.Flowing.{calm_flow}
-use Rattle.eris_undisturbed_law.proofs.Majorities.{one_if}
-use Rattle.eris_undisturbed_law.proofs.Submitting.{calm_crashed, calm_submitted, client_is, crashed_world, takes_submission}
+use Rattle.eris_calm_law.specs.Calm.{IsCalm, Submitted}
+use Rattle.eris_calm_law.specs.Crashes.{one_if}
+use Rattle.eris_calm_step_law.specs.CalmEvents.{crashes_on, is_calm, packets_for}
+use Rattle.eris_calm_step_law.proofs.Flowing.{calm_flow}
+use Rattle.eris_calm_step_law.proofs.Submitting.{calm_crashed, calm_submitted, client_is, crashed_world, takes_submission}
+use Rattle.eris_undisturbed_law.specs.Undisturbed.{crashes, packets_for_all}
+use Rattle.eris_undisturbed_law.proofs.Growing.{run_grows}
 
 -- ---- an event that is taken
 record IsAccepted (config : ConfigValue) (world : WorldState) (event : Event) : Type 0 where
