@@ -6,5 +6,4 @@ pub mod Voting
 pub mod Sending
 pub mod Queues
 pub mod Moving
-pub mod Starting
 pub mod Prompt

@@ -20,8 +20,7 @@ ghost use Rattle.eris_rules.specs.InPlace.{is_in_place_at_replica};
 ghost use Rattle.eris_rules.specs.ReplicaAnswers.{answer_after};
 ghost use Rattle.eris_rules.specs.Replicas.{replica_step};
 ghost use Rattle.eris_rules.specs.Votes.{is_counted};
-ghost use Rattle.eris_rules.specs.Worlds.{first_world};
-ghost use Rattle.eris_calm_law.specs.Calm.{IsCalm, Submitted};
+ghost use Rattle.eris_calm_law.specs.Calm.{Submitted};
 ghost use Rattle.eris_calm_law.specs.Crashes.{how_many_down, is_down};
 ghost use Rattle.eris_calm_law.specs.Noted.{CountsAll, HasVote};
 ghost use Rattle.eris_calm_law.specs.Packets.{HasItems, IsPacketOf, IsWhole, ops_on};
@@ -41,10 +40,4 @@ pub fn replicas_speak_at_once()
 /// are up, for one stamp in view 0, has counted the shard. The call does nothing; its contract is the law.
 pub fn majorities_are_counted()
     ensures counted { (f : ℕ) (votes : List Vote) (counted : List (ShardId × Answer)) (shard : ShardId) (stamp : Stamp) (down : List (ShardId × ReplicaId)) → CountsAll f votes counted → how_many_down down shard.0 ≤ f → is_down down shard.0 0 ≡ false → ((replica : ℕ) → replica < 2 * f + 1 → is_down down shard.0 replica ≡ false → HasVote votes shard (record { 0 = replica }) stamp) → is_counted counted shard ≡ true }
-{}
-
-/// What holds at every moment of a run that nothing disturbs holds at its start, where nothing waits and nobody is
-/// down. The call does nothing; its contract is the law.
-pub fn first_world_is_calm()
-    ensures start { (config : ConfigValue) → IsCalm config (λ shard. 0) 0 (first_world config) }
 {}

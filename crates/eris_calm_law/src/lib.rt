@@ -4,4 +4,4 @@
 
 mod law;
 
-pub use law::{first_world_is_calm, majorities_are_counted, replicas_speak_at_once};
+pub use law::{majorities_are_counted, replicas_speak_at_once};

@@ -31,77 +31,7 @@ use Rattle.eris_calm_step_law.proofs.Submitting.{calm_crashed, calm_submitted, c
 use Rattle.eris_undisturbed_law.specs.Undisturbed.{crashes, packets_for_all}
 use Rattle.eris_undisturbed_law.proofs.Growing.{run_grows}
 
--- ---- an event that is taken
-record IsAccepted (config : ConfigValue) (world : WorldState) (event : Event) : Type 0 where
-  no_cause : cause config world event ≡ None
-  few : length (happens config world event).sent ≤ 262144
-
-few_by : (sent : List Outgoing) → limit_met sent ≡ None → length sent ≤ 262144
-unfolding limit_met
-few_by sent h = by_test (nat_lt 262144 (length sent)) refl h
-  where
-    by_test : (b : Bool) → nat_lt 262144 (length sent) ≡ b → cond b (Some Refusal.Packets) (cond (nat_lt 67108864 (frame_sizes sent)) (Some Refusal.Bytes) None) ≡ None → length sent ≤ 262144
-    by_test true e k = absurd (cc)
-    by_test false e k = ltb-false 262144 (length sent) e
-
-accepted : (config : ConfigValue) (world after : WorldState) (event : Event) → world_after config world event ≡ Some after → IsAccepted config world event
-unfolding world_after refusal
-accepted config world after event h = by_cause (cause config world event) refl (limit_met (happens config world event).sent) refl h
-  where
-    by_cause : (why : Option Refusal) → cause config world event ≡ why → (met : Option Refusal) → limit_met (happens config world event).sent ≡ met → taken_by (happens config world event) (option_or why met) ≡ Some after → IsAccepted config world event
-    by_cause None e None m k = record { no_cause = e; few = few_by _ m }
-    by_cause None e (Some met) m k = absurd (cc)
-    by_cause (Some why) e met m k = absurd (cc)
-
 module _ (config : ConfigValue) where
-  weaker : (limits more : ShardId → ℕ) (budget greater : ℕ) (world : WorldState) → ((shard : ShardId) → limits shard ≤ more shard) → budget ≤ greater → IsCalm config limits budget world → IsCalm config more greater world
-  weaker limits more budget greater world up high (done, rest, calm) = (
-    done,
-    rest,
-    record {
-      queue = calm.queue;
-      few_sent = calm.few_sent;
-      weighs = omega (arith, calm.weighs, high);
-      stamping = calm.stamping;
-      stampings = calm.stampings;
-      epoch = calm.epoch;
-      counters = calm.counters;
-      fine = calm.fine;
-      cells = calm.cells;
-      few = λ shard. (let was = calm.few shard in let le = up shard in omega (arith, was, le));
-      first_up = calm.first_up;
-      clients = calm.clients;
-      whole = calm.whole;
-      jobs = calm.jobs;
-    },
-  )
-
-  submit_calm : (limits : ShardId → ℕ) (budget : ℕ) (world : WorldState) (client : ClientId) (ops : List Op) → is_calm (Event.Submit client ops) ≡ true → IsAccepted config world (Event.Submit client ops)
-      → IsCalm config limits budget world → IsCalm config limits (budget + packets_for config (Event.Submit client ops)) (happens config world (Event.Submit client ops))
-  unfolding happens cause after_client with_sends
-  submit_calm limits budget world client ops fits is (done, rest, calm) =
-      let some = ltb-true 0 (length ops) fits in
-      let same = takes_submission config limits budget world done rest client ops some is.no_cause calm in
-      subst (λ (w : WorldState). IsCalm config limits (budget + packets_for config (Event.Submit client ops)) w) (sym same)
-      (done, _, calm_submitted config limits budget world done rest client ops some is.no_cause calm (subst (λ (w : WorldState). length w.sent ≤ 262144) same is.few))
-
-  crash_calm : (limits : ShardId → ℕ) (budget : ℕ) (world : WorldState) (shard : ShardId) (replica : ReplicaId) → is_calm (Event.Crash shard replica) ≡ true → IsCalm config limits budget world
-      → IsCalm config (λ other. limits other + one_if (crashes_on other (Event.Crash shard replica))) (budget + 0) (happens config world (Event.Crash shard replica))
-  unfolding happens
-  crash_calm limits budget world shard replica not_first (done, rest, calm) =
-      weaker (λ other. limits other + one_if (shard.0 == other.0)) (λ other. limits other + one_if (shard.0 == other.0)) budget (budget + 0) (crashed_world config limits budget world done rest shard replica not_first calm) (λ other. omega arith) (omega arith)
-      (done, rest, calm_crashed config limits budget world done rest shard replica not_first calm)
-
-  -- ONE EVENT
-  event_calm : (limits : ShardId → ℕ) (budget : ℕ) (world : WorldState) (event : Event) → is_calm event ≡ true → IsAccepted config world event → IsCalm config limits budget world
-      → IsCalm config (λ shard. limits shard + one_if (crashes_on shard event)) (budget + packets_for config event) (happens config world event)
-  event_calm limits budget world (Event.Submit client ops) calm is now =
-      weaker limits (λ shard. limits shard + 0) _ _ (happens config world (Event.Submit client ops)) (λ shard. omega arith) (omega arith) (submit_calm limits budget world client ops calm is now)
-  event_calm limits budget world Event.Flow calm is now =
-      weaker limits (λ shard. limits shard + 0) (budget - 1) (budget + 0) (happens config world Event.Flow) (λ shard. omega arith) (omega arith) (calm_flow config limits budget world now is.few)
-  event_calm limits budget world (Event.Crash shard replica) calm is now = crash_calm limits budget world shard replica calm now
-  event_calm limits budget world event calm is now = absurd (cc)
-
   count_one : (b : Bool) (event : Event) (rest : List Event) → one_if b + length rest ≡ length (cond b (event ∷ rest) rest)
   count_one true event rest = omega arith
   count_one false event rest = omega arith
