@@ -1,8 +1,10 @@
--- FROM THE LINES OF A SCRIPT TO ITS EVENTS: the lines of an undisturbed script say an undisturbed list of events.
-use Rattle.std.proofs.Common.{◌≡◌, ◌+◌, ℕ, zero, suc, true, Some, Result, Ok, Err, List, [], ◌∷◌, ◌++◌, replicate, refl, ap, sym, ◌∙◌, append_assoc, append-nil}
+-- FROM THE LINES OF A SCRIPT TO ITS EVENTS: the lines of an undisturbed script say an undisturbed list of events, and
+-- what a script submits can be run.
+use Rattle.std.proofs.Common.{◌≡◌, ◌+◌, ℕ, zero, suc, true, Some, Result, Ok, Err, List, [], ◌∷◌, ◌++◌, replicate, refl, ap, sym, ◌∙◌, subst, append_assoc, append-nil}
 use Rattle.std.proofs.lemmas.Bool.{and_from, and_parts}
 use Rattle.std.specs.List.{flat_map, list_all}
 use Rattle.eris_base.specs.ConfigLimits.{ConfigValue}
+use Rattle.eris_base.proofs.Each.{Each-left}
 use Rattle.eris_script.specs.declared.event.Event.{Event}
 use Rattle.eris_script.specs.declared.header.Header.{Header}
 use Rattle.eris_script.specs.declared.line.Line.{Line}
@@ -12,6 +14,8 @@ use Rattle.eris_script.specs.LineForms.{line_of}
 use Rattle.eris_script.specs.Scripts.{BadLine, Script, events_from, events_of, script, script_in, with_config, with_events}
 use Rattle.eris_rules.specs.Runs.{run}
 use Rattle.eris_rules.specs.Worlds.{WorldState}
+use Rattle.eris_course_law.specs.Accepted.{AreEventsFit, IsEventFit}
+use Rattle.eris_good_law.proofs.Scripts.{script_fits}
 use Rattle.eris_calm_step_law.specs.CalmEvents.{is_calm}
 use Rattle.eris_undisturbed_law.specs.Undisturbed.{AreAnswered, AreUndisturbed, BeginsUndisturbed, IsText, IsUndisturbed, IsUndisturbedScript, Say, is_calm_line}
 use Rattle.eris_undisturbed_law.proofs.Answered.{first_answers, undisturbed_answers}
@@ -96,7 +100,8 @@ same_script bytes config said made is read =
 pub script_answers : (bytes : List ℕ) (made : Script) (world : WorldState) → IsUndisturbedScript bytes → script bytes ≡ Ok made → run made.config made.events ≡ Some world → AreAnswered world.history world.history
 script_answers bytes made world is read h =
     let same = same_script bytes is.config is.said made is.text read in
-    undisturbed_answers is.config (said_events is.said) world (undisturbed_lines is.config is.said is.undisturbed) (ap (λ (s : Script). run s.config s.events) (sym same) ∙ h)
+    let fit = subst (λ (s : Script). AreEventsFit s.events) same (script_fits bytes made read) in
+    undisturbed_answers is.config (said_events is.said) world (undisturbed_lines is.config is.said is.undisturbed) fit (ap (λ (s : Script). run s.config s.events) (sym same) ∙ h)
 
 -- and any script answers the transactions of its first lines, where these are undisturbed
 pub script_front_answers : (bytes : List ℕ) (made : Script) (world : WorldState) → (is : BeginsUndisturbed bytes) → script bytes ≡ Ok made → run made.config made.events ≡ Some world
@@ -104,5 +109,7 @@ pub script_front_answers : (bytes : List ℕ) (made : Script) (world : WorldStat
 script_front_answers bytes made world is read h =
     let same = same_script bytes is.config (is.said ++ is.more) made is.text read in
     let events = ap (λ (s : Script). run s.config s.events) (sym same) ∙ h in
-    let found = first_answers is.config (said_events is.said) (said_events is.more) world (undisturbed_lines is.config is.said is.undisturbed) (ap (λ (list : List Event). run is.config list) (sym (events-append is.said is.more)) ∙ events) in
+    let all_fit = subst (λ (s : Script). AreEventsFit s.events) same (script_fits bytes made read) in
+    let fit = Each-left IsEventFit (said_events is.said) (said_events is.more) (subst AreEventsFit (events-append is.said is.more) all_fit) in
+    let found = first_answers is.config (said_events is.said) (said_events is.more) world (undisturbed_lines is.config is.said is.undisturbed) fit (ap (λ (list : List Event). run is.config list) (sym (events-append is.said is.more)) ∙ events) in
     (found.0, ap (λ (s : Script). run s.config (said_events is.said)) same ∙ found.1, found.2)

@@ -23,10 +23,12 @@ use Rattle.eris_rules.specs.Refusals.{cause, frame_sizes, limit_met, refusal}
 use Rattle.eris_rules.specs.Runs.{run_from, taken_by, world_after}
 use Rattle.eris_rules.specs.Worlds.{WorldState, with_sends}
 use Rattle.eris_agreement.proofs.Moments.{taken}
+use Rattle.eris_course_law.specs.Accepted.{AreEventsFit, IsEventFit}
 use Rattle.eris_calm_law.specs.Calm.{IsCalm, Submitted}
 use Rattle.eris_calm_law.specs.Crashes.{one_if}
 use Rattle.eris_calm_step_law.specs.CalmEvents.{crashes_on, is_calm, packets_for}
 use Rattle.eris_calm_step_law.proofs.Flowing.{calm_flow}
+use Rattle.eris_calm_step_law.proofs.Stepping.{IsAccepted, accepted, after_calm, after_flow, some_ops, weaker}
 use Rattle.eris_calm_step_law.proofs.Submitting.{calm_crashed, calm_submitted, client_is, crashed_world, takes_submission}
 use Rattle.eris_undisturbed_law.specs.Undisturbed.{crashes, packets_for_all}
 use Rattle.eris_undisturbed_law.proofs.Growing.{run_grows}
@@ -41,15 +43,15 @@ module _ (config : ConfigValue) where
   none_run events last h = absurd (cc)
 
   -- EVENTS, one after another
-  pub run_calm : (limits : ShardId → ℕ) (budget : ℕ) (world : WorldState) (events : List Event) (last : WorldState) → list_all is_calm events ≡ true
+  pub run_calm : (limits : ShardId → ℕ) (budget : ℕ) (world : WorldState) (events : List Event) (last : WorldState) → list_all is_calm events ≡ true → AreEventsFit events
       → run_from config (Some world) events ≡ Some last → IsCalm config limits budget world → IsCalm config (λ shard. limits shard + crashes shard events) (budget + packets_for_all config events) last
   unfolding run_from
-  run_calm limits budget world [] last calm h now =
+  run_calm limits budget world [] last calm fit h now =
       let same : world ≡ last = cc in
-      weaker limits (λ shard. limits shard + 0) budget (budget + 0) last (λ shard. omega arith) (omega arith) (subst (IsCalm config limits budget) same now)
-  run_calm limits budget world (event ∷ events) last calm h now =
+      weaker config limits (λ shard. limits shard + 0) budget (budget + 0) last (λ shard. omega arith) (omega arith) (subst (IsCalm config limits budget) same now)
+  run_calm limits budget world (event ∷ events) last calm fit h now =
       by_next (world_after config world event) refl h
-      (λ next k is. run_calm (λ shard. limits shard + one_if (crashes_on shard event)) (budget + packets_for config event) next events last (and_parts _ _ calm).1 k is)
+      (λ next k is. run_calm (λ shard. limits shard + one_if (crashes_on shard event)) (budget + packets_for config event) next events last (and_parts _ _ calm).1 fit.1 k is)
     where
       by_next : (next : Option WorldState) → world_after config world event ≡ next → run_from config next events ≡ Some last
           → ((next : WorldState) → run_from config (Some next) events ≡ Some last → IsCalm config (λ shard. limits shard + one_if (crashes_on shard event)) (budget + packets_for config event) next
@@ -57,51 +59,49 @@ module _ (config : ConfigValue) where
           → IsCalm config (λ shard. limits shard + crashes shard (event ∷ events)) (budget + packets_for_all config (event ∷ events)) last
       by_next None e k rest = absurd (none_run events last k)
       by_next (Some next) e k rest =
-          let is = accepted config world next event e in
-          let after = subst (IsCalm config (λ shard. limits shard + one_if (crashes_on shard event)) (budget + packets_for config event)) (taken config world next event e) (event_calm limits budget world event (and_parts _ _ calm).0 is now) in
-          weaker (λ shard. (limits shard + one_if (crashes_on shard event)) + crashes shard events) (λ shard. limits shard + crashes shard (event ∷ events)) _ _ last
+          let after = after_calm config limits budget world next event (and_parts _ _ calm).0 fit.0 e now in
+          weaker config (λ shard. (limits shard + one_if (crashes_on shard event)) + crashes shard events) (λ shard. limits shard + crashes shard (event ∷ events)) _ _ last
           (λ shard. (let one = count_one (crashes_on shard event) event (filter (crashes_on shard) events) in omega (arith, one))) (omega arith) (rest next k after)
 
   -- THE LAST DELIVERIES
   pub flows_calm : (limits : ShardId → ℕ) (budget : ℕ) (world : WorldState) (count : ℕ) (last : WorldState) → run_from config (Some world) (replicate count Event.Flow) ≡ Some last
       → IsCalm config limits budget world → IsCalm config limits (budget - count) last
   unfolding run_from
-  flows_calm limits budget world zero last h now = let same : world ≡ last = cc in weaker limits limits budget (budget - 0) last (λ shard. omega arith) (omega arith) (subst (IsCalm config limits budget) same now)
+  flows_calm limits budget world zero last h now = let same : world ≡ last = cc in weaker config limits limits budget (budget - 0) last (λ shard. omega arith) (omega arith) (subst (IsCalm config limits budget) same now)
   flows_calm limits budget world (suc count) last h now = by_next (world_after config world Event.Flow) refl h (λ next k is. flows_calm limits (budget - 1) next count last k is)
     where
       by_next : (next : Option WorldState) → world_after config world Event.Flow ≡ next → run_from config next (replicate count Event.Flow) ≡ Some last
           → ((next : WorldState) → run_from config (Some next) (replicate count Event.Flow) ≡ Some last → IsCalm config limits (budget - 1) next → IsCalm config limits ((budget - 1) - count) last) → IsCalm config limits (budget - suc count) last
       by_next None e k rest = absurd (none_run (replicate count Event.Flow) last k)
       by_next (Some next) e k rest =
-          let is = accepted config world next Event.Flow e in
-          let after = subst (IsCalm config limits (budget - 1)) (taken config world next Event.Flow e) (calm_flow config limits budget world now is.few) in
-          weaker limits limits _ _ last (λ shard. omega arith) (omega arith) (rest next k after)
+          let after = after_flow config limits budget world next e now in
+          weaker config limits limits _ _ last (λ shard. omega arith) (omega arith) (rest next k after)
 
   -- ---- what the history has of it
-  is_submitted : (limits : ShardId → ℕ) (budget : ℕ) (world : WorldState) (client : ClientId) (ops : List Op) → is_calm (Event.Submit client ops) ≡ true → IsAccepted config world (Event.Submit client ops) → IsCalm config limits budget world
+  is_submitted : (limits : ShardId → ℕ) (budget : ℕ) (world : WorldState) (client : ClientId) (ops : List Op) → IsEventFit (Event.Submit client ops) → IsAccepted config world (Event.Submit client ops) → IsCalm config limits budget world
       → (id : TxnId) × (id.client ≡ client) × Submitted (happens config world (Event.Submit client ops)).history id ops
   unfolding happens cause after_client with_sends submit begins_half
-  is_submitted limits budget world client ops calm is (done, rest, now) =
-      let some = ltb-true 0 (length ops) calm in
+  is_submitted limits budget world client ops fit is (done, rest, now) =
+      let some = some_ops ops fit in
       let same = takes_submission config limits budget world done rest client ops some is.no_cause now in
       let at = client_is config limits budget world done rest client ops some is.no_cause now in
       let id = next_id (record { config = config; client = client }) at.0 in
       (id, refl, subst (λ (w : WorldState). Submitted w.history id ops) (sym same) (In-right (HistoryEvent.Submit id (Txn.Whole ops)) world.history (HistoryEvent.Submit id (Txn.Whole ops) ∷ []) (inl refl)))
 
-  event_submits : (limits : ShardId → ℕ) (budget : ℕ) (world : WorldState) (client : ClientId) (ops : List Op) (event : Event) → Event.Submit client ops ≡ event → is_calm event ≡ true → IsAccepted config world event → IsCalm config limits budget world
+  event_submits : (limits : ShardId → ℕ) (budget : ℕ) (world : WorldState) (client : ClientId) (ops : List Op) (event : Event) → Event.Submit client ops ≡ event → IsEventFit event → IsAccepted config world event → IsCalm config limits budget world
       → (id : TxnId) × (id.client ≡ client) × Submitted (happens config world event).history id ops
   event_submits limits budget world client ops event same =
-      subst (λ (e : Event). is_calm e ≡ true → IsAccepted config world e → IsCalm config limits budget world → (id : TxnId) × (id.client ≡ client) × Submitted (happens config world e).history id ops) same
-      (λ calm is now. is_submitted limits budget world client ops calm is now)
+      subst (λ (e : Event). IsEventFit e → IsAccepted config world e → IsCalm config limits budget world → (id : TxnId) × (id.client ≡ client) × Submitted (happens config world e).history id ops) same
+      (λ fit is now. is_submitted limits budget world client ops fit is now)
 
   -- EACH SUBMISSION stands in the history
-  pub submissions_stand : (limits : ShardId → ℕ) (budget : ℕ) (world : WorldState) (events : List Event) (last : WorldState) → list_all is_calm events ≡ true → run_from config (Some world) events ≡ Some last → IsCalm config limits budget world
+  pub submissions_stand : (limits : ShardId → ℕ) (budget : ℕ) (world : WorldState) (events : List Event) (last : WorldState) → list_all is_calm events ≡ true → AreEventsFit events → run_from config (Some world) events ≡ Some last → IsCalm config limits budget world
       → (client : ClientId) (ops : List Op) → In (Event.Submit client ops) events → (id : TxnId) × (id.client ≡ client) × Submitted last.history id ops
   unfolding run_from
-  submissions_stand limits budget world [] last calm h now client ops i = absurd i
-  submissions_stand limits budget world (event ∷ events) last calm h now client ops i =
+  submissions_stand limits budget world [] last calm fit h now client ops i = absurd i
+  submissions_stand limits budget world (event ∷ events) last calm fit h now client ops i =
       by_next (world_after config world event) refl h i
-      (λ next k is later. submissions_stand (λ shard. limits shard + one_if (crashes_on shard event)) (budget + packets_for config event) next events last (and_parts _ _ calm).1 k is client ops later)
+      (λ next k is later. submissions_stand (λ shard. limits shard + one_if (crashes_on shard event)) (budget + packets_for config event) next events last (and_parts _ _ calm).1 fit.1 k is client ops later)
     where
       by_next : (next : Option WorldState) → world_after config world event ≡ next → run_from config next events ≡ Some last → (Event.Submit client ops ≡ event) ⊎ In (Event.Submit client ops) events
           → ((next : WorldState) → run_from config (Some next) events ≡ Some last → IsCalm config (λ shard. limits shard + one_if (crashes_on shard event)) (budget + packets_for config event) next
@@ -109,12 +109,11 @@ module _ (config : ConfigValue) where
           → (id : TxnId) × (id.client ≡ client) × Submitted last.history id ops
       by_next None e k j rest = absurd (none_run events last k)
       by_next (Some next) e k (inl same) rest =
-          let here = event_submits limits budget world client ops event same (and_parts _ _ calm).0 (accepted config world next event e) now in
+          let here = event_submits limits budget world client ops event same fit.0 (accepted config world next event e) now in
           let then_on = run_grows config next events last k in
           (here.0, here.1, then_on _ (subst (λ (w : WorldState). Submitted w.history here.0 ops) (taken config world next event e) here.2))
       by_next (Some next) e k (inr later) rest =
-          let is = accepted config world next event e in
-          let after = subst (IsCalm config (λ shard. limits shard + one_if (crashes_on shard event)) (budget + packets_for config event)) (taken config world next event e) (event_calm limits budget world event (and_parts _ _ calm).0 is now) in
+          let after = after_calm config limits budget world next event (and_parts _ _ calm).0 fit.0 e now in
           rest next k after later
 
 -- a run of two lists, one after the other
