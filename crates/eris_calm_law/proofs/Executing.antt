@@ -1,10 +1,10 @@
 -- WHERE ALL PACKETS ARE OF INDEPENDENT TRANSACTIONS, the shard's store answers each at once: nobody holds locks,
 -- so nobody waits for one. An id that comes again gets the answer that was recorded, which has as many items.
 -- Used where a learner gets a packet.
-use Rattle.std.proofs.Common.{◌≡◌, ℕ, suc, not, Bool, true, false, cond, ◌==◌, ◌&&◌, Option, Some, None, List, [], ◌∷◌, length, map, refl, ap, sym, ◌∙◌, subst}
+use Rattle.std.proofs.Common.{◌≡◌, suc, not, Bool, true, false, cond, ◌==◌, ◌&&◌, Option, Some, None, List, [], ◌∷◌, length, map, refl, ap, sym, ◌∙◌, subst}
 use Rattle.std.proofs.lemmas.List.Sums.{length-filter}
 use Rattle.eris_txn.specs.declared.key.Key.{Key}
-use Rattle.std.specs.List.{filter, count_by}
+use Rattle.std.specs.List.{filter}
 use Rattle.std.specs.Prelude.{find}
 use Rattle.std.specs.Option.{option_map}
 use Rattle.eris_base.specs.declared.ids.ClientId.{ClientId}

@@ -1,6 +1,6 @@
 -- THE LEARNER'S ANSWER over a log of whole transactions is there at once, with an item for each operation on the shard.
 -- Used where a learner gets a packet.
-use Rattle.std.proofs.Common.{◌≡◌, Some, List, ap, ◌∙◌}
+use Rattle.std.proofs.Common.{◌≡◌, Some, List}
 use Rattle.eris_base.specs.declared.ids.ShardId.{ShardId}
 use Rattle.eris_base.specs.declared.ids.TxnId.{TxnId}
 use Rattle.eris_base.specs.Each.{Each}

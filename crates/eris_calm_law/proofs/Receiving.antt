@@ -19,13 +19,12 @@ use Rattle.eris_log.specs.Parts.{hold, hold_at}
 use Rattle.eris_locks.specs.States.{phase_of}
 use Rattle.eris_msg.specs.declared.message.Message.{Message}
 use Rattle.eris_rules.specs.declared.replica_input.ReplicaInput.{ReplicaInput}
-use Rattle.eris_rules.specs.declared.replica_status.ReplicaStatus.TheVariants.{Normal}
 use Rattle.eris_rules.specs.EpochMessages.{EpochSend, Stamped}
 use Rattle.eris_rules.specs.EpochReplicas.{Get, epoch_step, holds_packet, txn_at, txn_named, txn_row}
 use Rattle.eris_rules.specs.InPlace.{is_in_place_at_replica}
 use Rattle.eris_rules.specs.Outer.{outer_sends}
 use Rattle.eris_rules.specs.ReplicaAnswers.{answer_after, is_open, log_upto, open_at, open_packet, open_upto}
-use Rattle.eris_rules.specs.ReplicaStates.{EpochOut, EpochReplica, Identity, Member, ReplicaOut, ReplicaState, is_learner, quiet}
+use Rattle.eris_rules.specs.ReplicaStates.{EpochOut, EpochReplica, Identity, Member, ReplicaOut, is_learner, quiet}
 use Rattle.eris_rules.specs.Replicas.{message_step, replica_step, steps, steps_in, takes, takes_inner}
 use Rattle.eris_rules.specs.Speaking.{asks_once, has_gap, holds_from, replies_with, speaks_after, speaks_at, speaks_for, speaks_of, speaks_of_held, speaks_on, tail, vouch_for}
 use Rattle.eris_calm_law.specs.Received.{inner_after, numbered, state_after, whole_part}

@@ -5,8 +5,6 @@ use Rattle.std.proofs.lemmas.Bool.{and_from, and_parts, cases_lt, cases_eq, eq-e
 use Rattle.std.specs.List.{flat_map, list_all, range_with_len}
 use Rattle.std.specs.Option.{option_map}
 use Rattle.std.specs.Prelude.{find, slice_index}
-use Rattle.eris_base.specs.declared.ids.Node.{Node}
-use Rattle.eris_base.specs.declared.ids.Node.TheVariants.{Replica}
 use Rattle.eris_base.specs.declared.ids.ReplicaId.{ReplicaId}
 use Rattle.eris_base.specs.declared.ids.ShardId.{ShardId}
 use Rattle.eris_base.specs.Places.{number_in}
@@ -14,8 +12,6 @@ use Rattle.eris_txn.specs.declared.packet.Packet.{Packet}
 use Rattle.eris_txn.specs.Bodies.{ascends_from, has_shard, participants_of}
 use Rattle.eris_txn.proofs.BodyLaws.{participants-ascend}
 use Rattle.eris_epoch.specs.SamePackets.{same_list}
-use Rattle.eris_msg.specs.declared.message.Message.{Message}
-use Rattle.eris_msg.specs.declared.message.Message.TheVariants.{Txn}
 use Rattle.eris_msg.specs.declared.outgoing.Outgoing.{Outgoing}
 use Rattle.eris_calm_law.specs.Carried.{carrying, coming, is_to, packet_in}
 use Rattle.eris_sequencer.specs.Asks.{sends_of, sends_to}

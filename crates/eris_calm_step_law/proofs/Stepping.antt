@@ -32,7 +32,7 @@ use Rattle.eris_calm_step_law.proofs.Flowing.{calm_flow}
 use Rattle.eris_calm_step_law.proofs.Submitting.{calm_crashed, calm_submitted, client_is, crashed_world, takes_submission}
 
 -- ---- an event that is taken
-pub record IsAccepted (config : ConfigValue) (world : WorldState) (event : Event) : Type 0 where
+pub record WasTaken (config : ConfigValue) (world : WorldState) (event : Event) : Type 0 where
   pub no_cause : cause config world event ≡ None
   pub few : length (happens config world event).sent ≤ 262144
 
@@ -44,11 +44,11 @@ few_by sent h = by_test (nat_lt 262144 (length sent)) refl h
     by_test true e k = absurd (cc)
     by_test false e k = ltb-false 262144 (length sent) e
 
-pub accepted : (config : ConfigValue) (world after : WorldState) (event : Event) → world_after config world event ≡ Some after → IsAccepted config world event
+pub was_taken : (config : ConfigValue) (world after : WorldState) (event : Event) → world_after config world event ≡ Some after → WasTaken config world event
 unfolding world_after refusal
-accepted config world after event h = by_cause (cause config world event) refl (limit_met (happens config world event).sent) refl h
+was_taken config world after event h = by_cause (cause config world event) refl (limit_met (happens config world event).sent) refl h
   where
-    by_cause : (why : Option Refusal) → cause config world event ≡ why → (met : Option Refusal) → limit_met (happens config world event).sent ≡ met → taken_by (happens config world event) (option_or why met) ≡ Some after → IsAccepted config world event
+    by_cause : (why : Option Refusal) → cause config world event ≡ why → (met : Option Refusal) → limit_met (happens config world event).sent ≡ met → taken_by (happens config world event) (option_or why met) ≡ Some after → WasTaken config world event
     by_cause None e None m k = record { no_cause = e; few = few_by _ m }
     by_cause None e (Some met) m k = absurd (cc)
     by_cause (Some why) e met m k = absurd (cc)
@@ -80,7 +80,7 @@ module _ (config : ConfigValue) where
     },
   )
 
-  submit_calm : (limits : ShardId → ℕ) (budget : ℕ) (world : WorldState) (client : ClientId) (ops : List Op) → IsEventFit (Event.Submit client ops) → IsAccepted config world (Event.Submit client ops)
+  submit_calm : (limits : ShardId → ℕ) (budget : ℕ) (world : WorldState) (client : ClientId) (ops : List Op) → IsEventFit (Event.Submit client ops) → WasTaken config world (Event.Submit client ops)
       → IsCalm config limits budget world → IsCalm config limits (budget + packets_for config (Event.Submit client ops)) (happens config world (Event.Submit client ops))
   unfolding happens cause after_client with_sends
   submit_calm limits budget world client ops fits is (done, rest, calm) =
@@ -97,7 +97,7 @@ module _ (config : ConfigValue) where
       (done, rest, calm_crashed config limits budget world done rest shard replica not_first calm)
 
   -- ONE EVENT
-  pub event_calm : (limits : ShardId → ℕ) (budget : ℕ) (world : WorldState) (event : Event) → is_calm event ≡ true → IsEventFit event → IsAccepted config world event → IsCalm config limits budget world
+  pub event_calm : (limits : ShardId → ℕ) (budget : ℕ) (world : WorldState) (event : Event) → is_calm event ≡ true → IsEventFit event → WasTaken config world event → IsCalm config limits budget world
       → IsCalm config (λ shard. limits shard + one_if (crashes_on shard event)) (budget + packets_for config event) (happens config world event)
   event_calm limits budget world (Event.Submit client ops) calm fit is now =
       weaker limits (λ shard. limits shard + 0) _ _ (happens config world (Event.Submit client ops)) (λ shard. omega arith) (omega arith) (submit_calm limits budget world client ops fit is now)
@@ -110,10 +110,10 @@ module _ (config : ConfigValue) where
   pub after_calm : (limits : ShardId → ℕ) (budget : ℕ) (world next : WorldState) (event : Event) → is_calm event ≡ true → IsEventFit event → world_after config world event ≡ Some next → IsCalm config limits budget world
       → IsCalm config (λ shard. limits shard + one_if (crashes_on shard event)) (budget + packets_for config event) next
   after_calm limits budget world next event calm fit e now =
-      subst (IsCalm config (λ shard. limits shard + one_if (crashes_on shard event)) (budget + packets_for config event)) (taken config world next event e) (event_calm limits budget world event calm fit (accepted config world next event e) now)
+      subst (IsCalm config (λ shard. limits shard + one_if (crashes_on shard event)) (budget + packets_for config event)) (taken config world next event e) (event_calm limits budget world event calm fit (was_taken config world next event e) now)
 
   -- A DELIVERY takes some of what is to come
   pub after_flow : (limits : ShardId → ℕ) (budget : ℕ) (world next : WorldState) → world_after config world Event.Flow ≡ Some next → IsCalm config limits budget world → IsCalm config limits (budget - 1) next
   after_flow limits budget world next e now =
-      let is = accepted config world next Event.Flow e in
+      let is = was_taken config world next Event.Flow e in
       subst (IsCalm config limits (budget - 1)) (taken config world next Event.Flow e) (calm_flow config limits budget world now is.few)

@@ -95,7 +95,8 @@ happens_grow config world Event.Nudge = λ event i. i
 happens_grow config world Event.Replace = λ event i. i
 happens_grow config world (Event.Noise node bytes) = λ event i. i
 
-none_run : (config : ConfigValue) (events : List Event) (last : WorldState) → run_from config None events ≡ Some last → ⊥
+-- what was refused gives no world
+pub none_run : (config : ConfigValue) (events : List Event) (last : WorldState) → run_from config None events ≡ Some last → ⊥
 unfolding run_from
 none_run config events last h = absurd (cc)
 

@@ -28,19 +28,15 @@ use Rattle.eris_calm_law.specs.Calm.{IsCalm, Submitted}
 use Rattle.eris_calm_law.specs.Crashes.{one_if}
 use Rattle.eris_calm_step_law.specs.CalmEvents.{crashes_on, is_calm, packets_for}
 use Rattle.eris_calm_step_law.proofs.Flowing.{calm_flow}
-use Rattle.eris_calm_step_law.proofs.Stepping.{IsAccepted, accepted, after_calm, after_flow, some_ops, weaker}
+use Rattle.eris_calm_step_law.proofs.Stepping.{WasTaken, was_taken, after_calm, after_flow, some_ops, weaker}
 use Rattle.eris_calm_step_law.proofs.Submitting.{calm_crashed, calm_submitted, client_is, crashed_world, takes_submission}
 use Rattle.eris_undisturbed_law.specs.Undisturbed.{crashes, packets_for_all}
-use Rattle.eris_undisturbed_law.proofs.Growing.{run_grows}
+use Rattle.eris_undisturbed_law.proofs.Growing.{none_run, run_grows}
 
 module _ (config : ConfigValue) where
   count_one : (b : Bool) (event : Event) (rest : List Event) → one_if b + length rest ≡ length (cond b (event ∷ rest) rest)
   count_one true event rest = omega arith
   count_one false event rest = omega arith
-
-  none_run : (events : List Event) (last : WorldState) → run_from config None events ≡ Some last → ⊥
-  unfolding run_from
-  none_run events last h = absurd (cc)
 
   -- EVENTS, one after another
   pub run_calm : (limits : ShardId → ℕ) (budget : ℕ) (world : WorldState) (events : List Event) (last : WorldState) → list_all is_calm events ≡ true → AreEventsFit events
@@ -57,7 +53,7 @@ module _ (config : ConfigValue) where
           → ((next : WorldState) → run_from config (Some next) events ≡ Some last → IsCalm config (λ shard. limits shard + one_if (crashes_on shard event)) (budget + packets_for config event) next
           → IsCalm config (λ shard. (limits shard + one_if (crashes_on shard event)) + crashes shard events) ((budget + packets_for config event) + packets_for_all config events) last)
           → IsCalm config (λ shard. limits shard + crashes shard (event ∷ events)) (budget + packets_for_all config (event ∷ events)) last
-      by_next None e k rest = absurd (none_run events last k)
+      by_next None e k rest = absurd (none_run config events last k)
       by_next (Some next) e k rest =
           let after = after_calm config limits budget world next event (and_parts _ _ calm).0 fit.0 e now in
           weaker config (λ shard. (limits shard + one_if (crashes_on shard event)) + crashes shard events) (λ shard. limits shard + crashes shard (event ∷ events)) _ _ last
@@ -72,13 +68,13 @@ module _ (config : ConfigValue) where
     where
       by_next : (next : Option WorldState) → world_after config world Event.Flow ≡ next → run_from config next (replicate count Event.Flow) ≡ Some last
           → ((next : WorldState) → run_from config (Some next) (replicate count Event.Flow) ≡ Some last → IsCalm config limits (budget - 1) next → IsCalm config limits ((budget - 1) - count) last) → IsCalm config limits (budget - suc count) last
-      by_next None e k rest = absurd (none_run (replicate count Event.Flow) last k)
+      by_next None e k rest = absurd (none_run config (replicate count Event.Flow) last k)
       by_next (Some next) e k rest =
           let after = after_flow config limits budget world next e now in
           weaker config limits limits _ _ last (λ shard. omega arith) (omega arith) (rest next k after)
 
   -- ---- what the history has of it
-  is_submitted : (limits : ShardId → ℕ) (budget : ℕ) (world : WorldState) (client : ClientId) (ops : List Op) → IsEventFit (Event.Submit client ops) → IsAccepted config world (Event.Submit client ops) → IsCalm config limits budget world
+  is_submitted : (limits : ShardId → ℕ) (budget : ℕ) (world : WorldState) (client : ClientId) (ops : List Op) → IsEventFit (Event.Submit client ops) → WasTaken config world (Event.Submit client ops) → IsCalm config limits budget world
       → (id : TxnId) × (id.client ≡ client) × Submitted (happens config world (Event.Submit client ops)).history id ops
   unfolding happens cause after_client with_sends submit begins_half
   is_submitted limits budget world client ops fit is (done, rest, now) =
@@ -88,10 +84,10 @@ module _ (config : ConfigValue) where
       let id = next_id (record { config = config; client = client }) at.0 in
       (id, refl, subst (λ (w : WorldState). Submitted w.history id ops) (sym same) (In-right (HistoryEvent.Submit id (Txn.Whole ops)) world.history (HistoryEvent.Submit id (Txn.Whole ops) ∷ []) (inl refl)))
 
-  event_submits : (limits : ShardId → ℕ) (budget : ℕ) (world : WorldState) (client : ClientId) (ops : List Op) (event : Event) → Event.Submit client ops ≡ event → IsEventFit event → IsAccepted config world event → IsCalm config limits budget world
+  event_submits : (limits : ShardId → ℕ) (budget : ℕ) (world : WorldState) (client : ClientId) (ops : List Op) (event : Event) → Event.Submit client ops ≡ event → IsEventFit event → WasTaken config world event → IsCalm config limits budget world
       → (id : TxnId) × (id.client ≡ client) × Submitted (happens config world event).history id ops
   event_submits limits budget world client ops event same =
-      subst (λ (e : Event). IsEventFit e → IsAccepted config world e → IsCalm config limits budget world → (id : TxnId) × (id.client ≡ client) × Submitted (happens config world e).history id ops) same
+      subst (λ (e : Event). IsEventFit e → WasTaken config world e → IsCalm config limits budget world → (id : TxnId) × (id.client ≡ client) × Submitted (happens config world e).history id ops) same
       (λ fit is now. is_submitted limits budget world client ops fit is now)
 
   -- EACH SUBMISSION stands in the history
@@ -107,9 +103,9 @@ module _ (config : ConfigValue) where
           → ((next : WorldState) → run_from config (Some next) events ≡ Some last → IsCalm config (λ shard. limits shard + one_if (crashes_on shard event)) (budget + packets_for config event) next
           → In (Event.Submit client ops) events → (id : TxnId) × (id.client ≡ client) × Submitted last.history id ops)
           → (id : TxnId) × (id.client ≡ client) × Submitted last.history id ops
-      by_next None e k j rest = absurd (none_run events last k)
+      by_next None e k j rest = absurd (none_run config events last k)
       by_next (Some next) e k (inl same) rest =
-          let here = event_submits limits budget world client ops event same fit.0 (accepted config world next event e) now in
+          let here = event_submits limits budget world client ops event same fit.0 (was_taken config world next event e) now in
           let then_on = run_grows config next events last k in
           (here.0, here.1, then_on _ (subst (λ (w : WorldState). Submitted w.history here.0 ops) (taken config world next event e) here.2))
       by_next (Some next) e k (inr later) rest =
