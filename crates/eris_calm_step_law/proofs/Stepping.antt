@@ -1,35 +1,27 @@
 -- ONE EVENT THAT IS TAKEN: what holds at every moment holds after it, with one more down where it is a crash, and
 -- with as much more to come as it causes.
-use Rattle.std.proofs.Common.{◌≡◌, ◌≤◌, ◌<◌, ◌+◌, ◌-◌, ◌⊎◌, inl, inr, ℕ, zero, suc, Bool, true, false, cond, ◌==◌, nat_lt, Option, Some, None, List, [], ◌∷◌, ◌++◌, length, replicate, refl, sym, subst, arith}
-use Rattle.std.proofs.lemmas.Bool.{and_parts, ltb-false, ltb-true}
-use Rattle.std.specs.List.{filter, list_all}
+use Rattle.std.proofs.Common.{◌≡◌, ◌≤◌, ◌<◌, ◌+◌, ◌-◌, ℕ, Bool, true, false, cond, ◌==◌, nat_lt, Option, Some, None, List, [], ◌∷◌, length, refl, sym, subst, arith}
+use Rattle.std.proofs.lemmas.Bool.{ltb-false}
 use Rattle.std.specs.Option.{option_or}
 use Rattle.eris_base.specs.declared.ids.ClientId.{ClientId}
 use Rattle.eris_base.specs.declared.ids.ReplicaId.{ReplicaId}
 use Rattle.eris_base.specs.declared.ids.ShardId.{ShardId}
-use Rattle.eris_base.specs.declared.ids.TxnId.{TxnId}
 use Rattle.eris_base.specs.ConfigLimits.{ConfigValue}
-use Rattle.eris_txn.specs.declared.history.HistoryEvent.{HistoryEvent}
 use Rattle.eris_txn.specs.declared.op.Op.{Op}
-use Rattle.eris_txn.specs.declared.txn.Txn.{Txn}
 use Rattle.eris_msg.specs.declared.outgoing.Outgoing.{Outgoing}
 use Rattle.eris_script.specs.declared.event.Event.{Event}
 use Rattle.eris_rules.specs.declared.refusal.Refusal.{Refusal}
-use Rattle.eris_rules.specs.ClientStates.{next_id}
-use Rattle.eris_rules.specs.Clients.{begins_half, submit}
-use Rattle.eris_epoch_law.specs.Members.{In}
-use Rattle.eris_epoch_law.proofs.Members.{In-right}
 use Rattle.eris_rules.specs.Happenings.{after_client, happens}
 use Rattle.eris_rules.specs.Refusals.{cause, frame_sizes, limit_met, refusal}
-use Rattle.eris_rules.specs.Runs.{run_from, taken_by, world_after}
+use Rattle.eris_rules.specs.Runs.{taken_by, world_after}
 use Rattle.eris_rules.specs.Worlds.{WorldState, with_sends}
 use Rattle.eris_agreement.proofs.Moments.{taken}
 use Rattle.eris_course_law.specs.Accepted.{IsEventFit}
-use Rattle.eris_calm_law.specs.Calm.{IsCalm, Submitted}
+use Rattle.eris_calm_law.specs.Calm.{IsCalm}
 use Rattle.eris_calm_law.specs.Crashes.{one_if}
 use Rattle.eris_calm_step_law.specs.CalmEvents.{crashes_on, is_calm, packets_for}
 use Rattle.eris_calm_step_law.proofs.Flowing.{calm_flow}
-use Rattle.eris_calm_step_law.proofs.Submitting.{calm_crashed, calm_submitted, client_is, crashed_world, takes_submission}
+use Rattle.eris_calm_step_law.proofs.Submitting.{calm_crashed, calm_submitted, crashed_world, takes_submission}
 
 -- ---- an event that is taken
 pub record WasTaken (config : ConfigValue) (world : WorldState) (event : Event) : Type 0 where

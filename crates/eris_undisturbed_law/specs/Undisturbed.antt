@@ -1,23 +1,19 @@
 -- SCRIPTS THAT NOTHING DISTURBS: every packet is delivered once, in the order in which they were sent, and no
 -- timer runs. Only whole transactions are submitted. A few replicas may crash, but no shard's first one, which is the
 -- learner that answers.
-use Rattle.std.specs.Prelude.{◌≡◌, ◌≤◌, ℕ, Bool, true, false, ◌+◌, ◌*◌, ◌==◌, nat_lt, List, [], ◌∷◌, ◌++◌, length, replicate, ⊤, Ok}
+use Rattle.std.specs.Prelude.{◌≡◌, ◌≤◌, ℕ, Bool, true, false, ◌+◌, List, [], ◌∷◌, ◌++◌, length, replicate, ⊤, Ok}
 use Rattle.std.specs.List.{filter, flat_map, list_all}
 use Rattle.eris_base.specs.declared.ids.ShardId.{ShardId}
 use Rattle.eris_base.specs.declared.ids.TxnId.{TxnId}
 use Rattle.eris_base.specs.ConfigLimits.{ConfigValue}
-use Rattle.eris_txn.specs.declared.answer.Answer.{Answer}
-use Rattle.eris_txn.specs.declared.body.Body.TheVariants.{Independent}
 use Rattle.eris_txn.specs.declared.history.HistoryEvent.{HistoryEvent}
 use Rattle.eris_txn.specs.declared.txn.Txn.{Txn}
-use Rattle.eris_txn.specs.Bodies.{participants_of}
 use Rattle.eris_script.specs.declared.event.Event.{Event}
 use Rattle.eris_script.specs.declared.line.Line.{Line}
 use Rattle.eris_script.specs.Cuts.{lines}
 use Rattle.eris_script.specs.Headers.{header_of}
 use Rattle.eris_script.specs.LineForms.{line_of}
 use Rattle.eris_script.specs.Scripts.{events_of}
-use Rattle.eris_rules.specs.Addressees.{replica_count}
 use Rattle.eris_epoch_law.specs.Members.{In}
 use Rattle.eris_calm_law.specs.Calm.{IsAnswered}
 use Rattle.eris_calm_step_law.specs.CalmEvents.{crashes_on, is_calm, packets_for}
