@@ -8,6 +8,7 @@ use Rattle.eris_base.specs.declared.ids.ShardId.{ShardId}
 use Rattle.eris_base.specs.declared.ids.TxnId.{TxnId}
 use Rattle.eris_base.specs.declared.stamp.Stamp.{Stamp}
 use Rattle.eris_base.specs.ConfigLimits.{ConfigValue}
+use Rattle.eris_base.proofs.Each.{Each-left}
 use Rattle.eris_txn.specs.declared.history.HistoryEvent.{HistoryEvent}
 use Rattle.eris_txn.specs.declared.op.Op.{Op}
 use Rattle.eris_txn.specs.declared.txn.Txn.{Txn}
@@ -23,13 +24,16 @@ use Rattle.eris_rules.specs.Votes.{is_complete, is_counted}
 use Rattle.eris_rules.specs.Worlds.{WorldState, first_world}
 use Rattle.eris_epoch_law.specs.Members.{In}
 use Rattle.eris_epoch_law.proofs.Members.{any_from}
-use Rattle.eris_undisturbed_law.specs.Undisturbed.{AreAnswered, IsAnswered, IsUndisturbed, crashes, is_calm, packets_for_all}
-use Rattle.eris_undisturbed_law.proofs.Calm.{Coming, Done, Down, Heard, IsCalm, IsCalmWorld, IsOpen, Job, Open, Progress, Said, Spread, Stage, Unstamped, Way, shards_of_ops, weight}
-use Rattle.eris_undisturbed_law.proofs.Growing.{run_grows}
-use Rattle.eris_undisturbed_law.proofs.Majorities.{is_down}
-use Rattle.eris_undisturbed_law.proofs.Running.{flows_calm, run_calm, run_parts, submissions_stand}
+use Rattle.eris_course_law.specs.Accepted.{AreEventsFit, IsEventFit}
+use Rattle.eris_calm_law.specs.Calm.{Coming, Done, Down, Heard, IsAnswered, IsCalm, IsCalmWorld, IsOpen, Job, Open, Progress, Said, Spread, Stage, Unstamped, Way, shards_of_ops, weight}
+use Rattle.eris_calm_law.specs.Crashes.{is_down}
+use Rattle.eris_calm_law.specs.Noted.{HasVote}
 use Rattle.eris_undisturbed_law.proofs.Starting.{calm_start}
-use Rattle.eris_undisturbed_law.proofs.Voting.{HasVote, all_pass, majority_counts}
+use Rattle.eris_calm_law.proofs.Voting.{all_pass, majority_counts}
+use Rattle.eris_calm_step_law.specs.CalmEvents.{is_calm}
+use Rattle.eris_undisturbed_law.specs.Undisturbed.{AreAnswered, IsUndisturbed, crashes, packets_for_all}
+use Rattle.eris_undisturbed_law.proofs.Growing.{run_grows}
+use Rattle.eris_undisturbed_law.proofs.Running.{flows_calm, run_calm, run_parts, submissions_stand}
 
 some_weight : (config : ConfigValue) (message : Message) → 1 ≤ weight config message
 some_weight config (Message.Ask asker id body) = omega arith
@@ -78,32 +82,33 @@ module _ (config : ConfigValue) (limits : ShardId → ℕ) (few : (shard : Shard
   all_answered (done, rest, calm) = record { at = each_answered done (none_rest done rest calm) }
 
 -- A SCRIPT THAT NOTHING DISTURBS ANSWERS each transaction that it submits
-pub undisturbed_answers : (config : ConfigValue) (events : List Event) (world : WorldState) → IsUndisturbed config events → run config events ≡ Some world
+pub undisturbed_answers : (config : ConfigValue) (events : List Event) (world : WorldState) → IsUndisturbed config events → AreEventsFit events → run config events ≡ Some world
     → AreAnswered world.history world.history
 unfolding run
-undisturbed_answers config events world is h =
+undisturbed_answers config events world is fit h =
+    let first_fit = Each-left IsEventFit is.front (replicate is.flows Event.Flow) (subst AreEventsFit is.are fit) in
     let parts = run_parts config (Some (first_world config)) is.front (replicate is.flows Event.Flow) world (ap (λ (list : List Event). run_from config (Some (first_world config)) list) (sym is.are) ∙ h) in
-    let middle = run_calm config (λ shard. 0) 0 (first_world config) is.front parts.0 is.calm parts.1 (calm_start config) in
+    let middle = run_calm config (λ shard. 0) 0 (first_world config) is.front parts.0 is.calm first_fit parts.1 (calm_start config) in
     let last = flows_calm config (λ shard. 0 + crashes shard is.front) (0 + packets_for_all config is.front) parts.0 is.flows world parts.2 middle in
     let none : (0 + packets_for_all config is.front) - is.flows ≡ 0 = omega (arith, is.enough) in
     all_answered config (λ shard. 0 + crashes shard is.front) (λ shard. (let most = is.few shard in omega (arith, most))) world
     (subst (λ (budget : ℕ). IsCalm config (λ shard. 0 + crashes shard is.front) budget world) none last)
 
 -- and whatever comes after, these are still answered
-pub first_answers : (config : ConfigValue) (events more : List Event) (world : WorldState) → IsUndisturbed config events → run config (events ++ more) ≡ Some world
+pub first_answers : (config : ConfigValue) (events more : List Event) (world : WorldState) → IsUndisturbed config events → AreEventsFit events → run config (events ++ more) ≡ Some world
     → (middle : WorldState) × (run config events ≡ Some middle) × AreAnswered middle.history world.history
 unfolding run
-first_answers config events more world is h =
+first_answers config events more world is fit h =
     let parts = run_parts config (Some (first_world config)) events more world h in
-    let answered = undisturbed_answers config events parts.0 is parts.1 in
+    let answered = undisturbed_answers config events parts.0 is fit parts.1 in
     (parts.0, parts.1, record { at = λ id txn i. (let now = answered.at id txn i in (now.0, run_grows config parts.0 more world parts.2 _ now.1)) })
 
 -- and each submission of its events stands in the history
-pub submissions_there : (config : ConfigValue) (events : List Event) (world : WorldState) → IsUndisturbed config events → run config events ≡ Some world
+pub submissions_there : (config : ConfigValue) (events : List Event) (world : WorldState) → IsUndisturbed config events → AreEventsFit events → run config events ≡ Some world
     → (client : ClientId) (ops : List Op) → In (Event.Submit client ops) events → (id : TxnId) × (id.client ≡ client) × In (HistoryEvent.Submit id (Txn.Whole ops)) world.history
 unfolding run
-submissions_there config events world is h client ops i =
-    submissions_stand config (λ shard. 0) 0 (first_world config) events world (ap (λ (list : List Event). list_all is_calm list) is.are ∙ all_calm is.front is.flows is.calm) h (calm_start config) client ops i
+submissions_there config events world is fit h client ops i =
+    submissions_stand config (λ shard. 0) 0 (first_world config) events world (ap (λ (list : List Event). list_all is_calm list) is.are ∙ all_calm is.front is.flows is.calm) fit h (calm_start config) client ops i
   where
     all_calm : (front : List Event) (count : ℕ) → list_all is_calm front ≡ true → list_all is_calm (front ++ replicate count Event.Flow) ≡ true
     all_calm [] zero calm = refl

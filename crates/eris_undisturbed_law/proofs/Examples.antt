@@ -121,6 +121,11 @@ learner_down : answered (system 1 1 1) (crash 0 0 ∷ one_put ++ flow 20) ≡ So
 unfolding all_rules
 learner_down = refl
 
+-- A SUBMISSION OF NO OPERATION is on no shard, and nobody answers it: so of events it is asked that they are fit
+no_operation : answered (system 1 0 1) (submit 0 [] ∷ flow 20) ≡ Some []
+unfolding all_rules
+no_operation = refl
+
 -- ---- what the law asks can be met
 abbrev text : List ℕ
 text = codes "eris 1 1 0 1" ++ 10 ∷ codes "submit 0 put 0/a 7" ++ 10 ∷ codes "flow 3" ++ 10 ∷ codes "# that is all" ++ 10 ∷ []

@@ -21,9 +21,9 @@ use Rattle.eris_rules.specs.ReplicaStates.{ReplicaState}
 use Rattle.eris_rules.specs.Runs.{run_from, world_after}
 use Rattle.eris_rules.specs.Worlds.{WorldState, client_at, has_crashed, no_longer_waiting, replica_at, with_sends}
 use Rattle.eris_agreement.proofs.Moments.{taken}
-use Rattle.eris_undisturbed_law.proofs.Counting.{keeps_with}
 use Rattle.eris_epoch_law.specs.Members.{In}
-use Rattle.eris_undisturbed_law.proofs.Moving.{Keeps}
+use Rattle.eris_calm_law.proofs.Moving.{Keeps}
+use Rattle.eris_calm_step_law.proofs.Counting.{keeps_with}
 
 -- a later world's history has what this one's has
 abbrev pub Grows : WorldState → WorldState → Type 0
@@ -95,7 +95,8 @@ happens_grow config world Event.Nudge = λ event i. i
 happens_grow config world Event.Replace = λ event i. i
 happens_grow config world (Event.Noise node bytes) = λ event i. i
 
-none_run : (config : ConfigValue) (events : List Event) (last : WorldState) → run_from config None events ≡ Some last → ⊥
+-- what was refused gives no world
+pub none_run : (config : ConfigValue) (events : List Event) (last : WorldState) → run_from config None events ≡ Some last → ⊥
 unfolding run_from
 none_run config events last h = absurd (cc)
 

@@ -1,8 +1,11 @@
--- FROM THE LINES OF A SCRIPT TO ITS EVENTS: the lines of an undisturbed script say an undisturbed list of events.
-use Rattle.std.proofs.Common.{◌≡◌, ◌+◌, ℕ, zero, suc, true, Some, Result, Ok, Err, List, [], ◌∷◌, ◌++◌, replicate, refl, ap, sym, ◌∙◌, append_assoc, append-nil}
+-- FROM THE LINES OF A SCRIPT TO ITS EVENTS: the lines of an undisturbed script say an undisturbed list of events, and
+-- what a script submits can be run.
+use Rattle.std.proofs.Common.{◌≡◌, ◌+◌, ℕ, zero, suc, true, Some, Result, Ok, Err, List, [], ◌∷◌, ◌++◌, replicate, refl, ap, sym, ◌∙◌, subst, append-nil}
 use Rattle.std.proofs.lemmas.Bool.{and_from, and_parts}
+use Rattle.std.proofs.lemmas.Grind.{flat_map-append}
 use Rattle.std.specs.List.{flat_map, list_all}
 use Rattle.eris_base.specs.ConfigLimits.{ConfigValue}
+use Rattle.eris_base.proofs.Each.{Each-left}
 use Rattle.eris_script.specs.declared.event.Event.{Event}
 use Rattle.eris_script.specs.declared.header.Header.{Header}
 use Rattle.eris_script.specs.declared.line.Line.{Line}
@@ -12,16 +15,15 @@ use Rattle.eris_script.specs.LineForms.{line_of}
 use Rattle.eris_script.specs.Scripts.{BadLine, Script, events_from, events_of, script, script_in, with_config, with_events}
 use Rattle.eris_rules.specs.Runs.{run}
 use Rattle.eris_rules.specs.Worlds.{WorldState}
-use Rattle.eris_undisturbed_law.specs.Undisturbed.{AreAnswered, AreUndisturbed, BeginsUndisturbed, IsText, IsUndisturbed, IsUndisturbedScript, Say, is_calm, is_calm_line}
+use Rattle.eris_course_law.specs.Accepted.{AreEventsFit, IsEventFit}
+use Rattle.eris_good_law.proofs.Scripts.{script_fits}
+use Rattle.eris_calm_step_law.specs.CalmEvents.{is_calm}
+use Rattle.eris_undisturbed_law.specs.Undisturbed.{AreAnswered, AreUndisturbed, BeginsUndisturbed, IsText, IsUndisturbed, IsUndisturbedScript, Say, is_calm_line}
 use Rattle.eris_undisturbed_law.proofs.Answered.{first_answers, undisturbed_answers}
 
 -- ---- events of lines
 abbrev said_events : List Line → List Event
 said_events said = flat_map events_of said
-
-events-append : (some more : List Line) → said_events (some ++ more) ≡ said_events some ++ said_events more
-events-append [] more = refl
-events-append (line ∷ some) more = ap (λ (rest : List Event). events_of line ++ rest) (events-append some more) ∙ sym (append_assoc (events_of line) (said_events some) (said_events more))
 
 none_said : (count : ℕ) → said_events (replicate count Line.Skip) ≡ []
 none_said zero = refl
@@ -52,7 +54,7 @@ undisturbed_lines config said are = record {
   flows = are.flows;
   are =
       ap said_events are.are
-      ∙ events-append are.front (Line.Flow are.flows ∷ replicate are.skipped Line.Skip)
+      ∙ flat_map-append events_of are.front (Line.Flow are.flows ∷ replicate are.skipped Line.Skip)
       ∙ ap (λ (rest : List Event). said_events are.front ++ (replicate are.flows Event.Flow ++ rest)) (none_said are.skipped)
       ∙ ap (λ (rest : List Event). said_events are.front ++ rest) (append-nil (replicate are.flows Event.Flow));
   calm = all_calm are.front are.calm;
@@ -95,7 +97,8 @@ same_script bytes config said made is read =
 pub script_answers : (bytes : List ℕ) (made : Script) (world : WorldState) → IsUndisturbedScript bytes → script bytes ≡ Ok made → run made.config made.events ≡ Some world → AreAnswered world.history world.history
 script_answers bytes made world is read h =
     let same = same_script bytes is.config is.said made is.text read in
-    undisturbed_answers is.config (said_events is.said) world (undisturbed_lines is.config is.said is.undisturbed) (ap (λ (s : Script). run s.config s.events) (sym same) ∙ h)
+    let fit = subst (λ (s : Script). AreEventsFit s.events) same (script_fits bytes made read) in
+    undisturbed_answers is.config (said_events is.said) world (undisturbed_lines is.config is.said is.undisturbed) fit (ap (λ (s : Script). run s.config s.events) (sym same) ∙ h)
 
 -- and any script answers the transactions of its first lines, where these are undisturbed
 pub script_front_answers : (bytes : List ℕ) (made : Script) (world : WorldState) → (is : BeginsUndisturbed bytes) → script bytes ≡ Ok made → run made.config made.events ≡ Some world
@@ -103,5 +106,7 @@ pub script_front_answers : (bytes : List ℕ) (made : Script) (world : WorldStat
 script_front_answers bytes made world is read h =
     let same = same_script bytes is.config (is.said ++ is.more) made is.text read in
     let events = ap (λ (s : Script). run s.config s.events) (sym same) ∙ h in
-    let found = first_answers is.config (said_events is.said) (said_events is.more) world (undisturbed_lines is.config is.said is.undisturbed) (ap (λ (list : List Event). run is.config list) (sym (events-append is.said is.more)) ∙ events) in
+    let all_fit = subst (λ (s : Script). AreEventsFit s.events) same (script_fits bytes made read) in
+    let fit = Each-left IsEventFit (said_events is.said) (said_events is.more) (subst AreEventsFit (flat_map-append events_of is.said is.more) all_fit) in
+    let found = first_answers is.config (said_events is.said) (said_events is.more) world (undisturbed_lines is.config is.said is.undisturbed) fit (ap (λ (list : List Event). run is.config list) (sym (flat_map-append events_of is.said is.more)) ∙ events) in
     (found.0, ap (λ (s : Script). run s.config (said_events is.said)) same ∙ found.1, found.2)

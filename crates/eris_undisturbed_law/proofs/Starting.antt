@@ -16,8 +16,8 @@ use Rattle.eris_rules.specs.ClientStates.{ClientState, first_client}
 use Rattle.eris_rules.specs.Known.{knows_client}
 use Rattle.eris_rules.specs.ReplicaStates.{begun, first_state, fresh}
 use Rattle.eris_rules.specs.Worlds.{client_at, first_replicas, first_world, in_row, replica_at}
-use Rattle.eris_undisturbed_law.proofs.Calm.{IsCalm, IsCell}
-use Rattle.eris_undisturbed_law.proofs.Receiving.{state_after}
+use Rattle.eris_calm_law.specs.Calm.{IsCalm, IsCell}
+use Rattle.eris_calm_law.specs.Received.{state_after}
 
 no_count : (many i : ℕ) → slice_index (replicate many 0) i ≡ 0
 no_count zero i = refl

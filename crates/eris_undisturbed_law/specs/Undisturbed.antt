@@ -1,52 +1,33 @@
 -- SCRIPTS THAT NOTHING DISTURBS: every packet is delivered once, in the order in which they were sent, and no
 -- timer runs. Only whole transactions are submitted. A few replicas may crash, but no shard's first one, which is the
 -- learner that answers.
-use Rattle.std.specs.Prelude.{◌≡◌, ◌≤◌, ℕ, Bool, true, false, ◌+◌, ◌*◌, ◌==◌, nat_lt, List, [], ◌∷◌, ◌++◌, length, replicate, ⊤, Ok}
+use Rattle.std.specs.Prelude.{◌≡◌, ◌≤◌, ℕ, Bool, true, false, ◌+◌, List, [], ◌∷◌, ◌++◌, length, replicate, ⊤, Ok}
 use Rattle.std.specs.List.{filter, flat_map, list_all}
 use Rattle.eris_base.specs.declared.ids.ShardId.{ShardId}
 use Rattle.eris_base.specs.declared.ids.TxnId.{TxnId}
 use Rattle.eris_base.specs.ConfigLimits.{ConfigValue}
-use Rattle.eris_txn.specs.declared.answer.Answer.{Answer}
-use Rattle.eris_txn.specs.declared.body.Body.TheVariants.{Independent}
 use Rattle.eris_txn.specs.declared.history.HistoryEvent.{HistoryEvent}
 use Rattle.eris_txn.specs.declared.txn.Txn.{Txn}
-use Rattle.eris_txn.specs.Bodies.{participants_of}
 use Rattle.eris_script.specs.declared.event.Event.{Event}
 use Rattle.eris_script.specs.declared.line.Line.{Line}
 use Rattle.eris_script.specs.Cuts.{lines}
 use Rattle.eris_script.specs.Headers.{header_of}
 use Rattle.eris_script.specs.LineForms.{line_of}
 use Rattle.eris_script.specs.Scripts.{events_of}
-use Rattle.eris_rules.specs.Addressees.{replica_count}
 use Rattle.eris_epoch_law.specs.Members.{In}
+use Rattle.eris_calm_law.specs.Calm.{IsAnswered}
+use Rattle.eris_calm_step_law.specs.CalmEvents.{crashes_on, is_calm, packets_for}
 
--- a submission of a whole transaction, which has an operation, as in every line of a script; a delivery of the lowest
--- waiting packet; or the crash of a replica that isn't its shard's first
-abbrev pub is_calm : Event → Bool
-is_calm (Event.Submit client ops) = nat_lt 0 (length ops)
-is_calm Event.Flow = true
-is_calm (Event.Crash shard replica) = nat_lt 0 replica.0
-is_calm event = false
-
--- a replica of the shard crashes
-abbrev pub crashes_on : ShardId → Event → Bool
-crashes_on shard (Event.Crash other replica) = other.0 == shard.0
-crashes_on shard event = false
-
+-- how many crash on a shard
 abbrev pub crashes : ShardId → List Event → ℕ
 crashes shard events = length (filter (crashes_on shard) events)
 
--- HOW MANY PACKETS a submission causes at most: the client's Ask, and for each replica of each shard that takes part
--- a packet and an answer to it
-abbrev pub packets_for : ConfigValue → Event → ℕ
-packets_for config (Event.Submit client ops) = 1 + length (participants_of (Independent ops)) * (2 * replica_count config)
-packets_for config event = 0
-
+-- how many packets they cause at most
 abbrev pub packets_for_all : ConfigValue → List Event → ℕ
 packets_for_all config [] = 0
 packets_for_all config (event ∷ events) = packets_for config event + packets_for_all config events
 
--- AN UNDISTURBED SCRIPT: calm events, of which at most f crash a replica of one shard; and at its end as many
+-- AN UNDISTURBED LIST OF EVENTS: calm events, of which at most f crash a replica of one shard; and at its end as many
 -- deliveries as its submissions can cause packets
 pub record IsUndisturbed (config : ConfigValue) (events : List Event) : Type 0 where
   pub front : List Event
@@ -55,10 +36,6 @@ pub record IsUndisturbed (config : ConfigValue) (events : List Event) : Type 0 w
   pub calm : list_all is_calm front ≡ true
   pub few : (shard : ShardId) → crashes shard front ≤ config.f
   pub enough : packets_for_all config front ≤ flows
-
--- the transaction is answered
-abbrev pub IsAnswered : TxnId → List HistoryEvent → Type 0
-IsAnswered id history = (answer : Answer) × In (HistoryEvent.Answer id answer) history
 
 -- EACH TRANSACTION that was submitted in one history is answered in another
 pub record AreAnswered (asked history : List HistoryEvent) : Type 0 where

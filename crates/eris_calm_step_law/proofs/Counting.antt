@@ -26,9 +26,10 @@ use Rattle.eris_client_law.specs.Counts.{message_of, message_with}
 use Rattle.eris_client_law.proofs.Entries.{found_other, found_put}
 use Rattle.eris_epoch_law.specs.Members.{In}
 use Rattle.eris_epoch_law.proofs.Members.{In-append, In-left}
-use Rattle.eris_undisturbed_law.proofs.Calm.{IsOpen, IsRight}
-use Rattle.eris_undisturbed_law.proofs.Moving.{Keeps}
-use Rattle.eris_undisturbed_law.proofs.Voting.{CountsAll, counts_more}
+use Rattle.eris_calm_law.specs.Calm.{IsOpen, IsRight}
+use Rattle.eris_calm_law.specs.Noted.{CountsAll}
+use Rattle.eris_calm_law.proofs.Moving.{Keeps}
+use Rattle.eris_calm_law.proofs.Voting.{counts_more}
 
 -- what the client's step does with one of its transactions
 pub record Hears (f : ℕ) (state : ClientState) (id : TxnId) (before : Transaction) (vote : Vote) (out : ClientOut) : Type 0 where

@@ -19,34 +19,16 @@ use Rattle.eris_log.specs.Parts.{hold, hold_at}
 use Rattle.eris_locks.specs.States.{phase_of}
 use Rattle.eris_msg.specs.declared.message.Message.{Message}
 use Rattle.eris_rules.specs.declared.replica_input.ReplicaInput.{ReplicaInput}
-use Rattle.eris_rules.specs.declared.replica_status.ReplicaStatus.TheVariants.{Normal}
 use Rattle.eris_rules.specs.EpochMessages.{EpochSend, Stamped}
 use Rattle.eris_rules.specs.EpochReplicas.{Get, epoch_step, holds_packet, txn_at, txn_named, txn_row}
 use Rattle.eris_rules.specs.InPlace.{is_in_place_at_replica}
 use Rattle.eris_rules.specs.Outer.{outer_sends}
 use Rattle.eris_rules.specs.ReplicaAnswers.{answer_after, is_open, log_upto, open_at, open_packet, open_upto}
-use Rattle.eris_rules.specs.ReplicaStates.{EpochOut, EpochReplica, Identity, Member, ReplicaOut, ReplicaState, is_learner, quiet}
+use Rattle.eris_rules.specs.ReplicaStates.{EpochOut, EpochReplica, Identity, Member, ReplicaOut, is_learner, quiet}
 use Rattle.eris_rules.specs.Replicas.{message_step, replica_step, steps, steps_in, takes, takes_inner}
 use Rattle.eris_rules.specs.Speaking.{asks_once, has_gap, holds_from, replies_with, speaks_after, speaks_at, speaks_for, speaks_of, speaks_of_held, speaks_on, tail, vouch_for}
-use Rattle.eris_undisturbed_law.proofs.Numbered.{beyond, held_at, last_of, none_above, numbered, one_more_held, open_entry, whole_length, whole_part, within}
-
--- its state within epoch 0, and over all epochs
-abbrev pub inner_after : ShardId → List Packet → EpochReplica
-inner_after shard packets =
-    record {
-      view = record { 0 = 0 };
-      status = Normal;
-      part = whole_part shard packets;
-      settled = 0;
-      spoken = length packets;
-      asked = None;
-      noted = [];
-      acks = [];
-    }
-
-abbrev pub state_after : ShardId → List Packet → ReplicaState
-state_after shard packets =
-    record { epoch = record { 0 = 0 }; promised = record { 0 = 0 }; prior = []; inner = inner_after shard packets }
+use Rattle.eris_calm_law.specs.Received.{inner_after, numbered, state_after, whole_part}
+use Rattle.eris_calm_law.proofs.Numbered.{beyond, held_at, last_of, none_above, one_more_held, open_entry, whole_length, within}
 
 -- ---- the log
 take_one : (packets : List Packet) (i : ℕ) (packet : Packet) → slice_get packets i ≡ Some packet → take (suc i) packets ≡ take i packets ++ packet ∷ []

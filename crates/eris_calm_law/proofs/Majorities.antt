@@ -2,15 +2,11 @@
 -- of them. Used where the last packets have come and a client has a majority's votes.
 use Rattle.std.proofs.Common.{◌≡◌, ◌⊎◌, inl, inr, ◌≤◌, ◌<◌, ◌+◌, ◌*◌, ℕ, zero, suc, Bool, true, false, not, cond, ◌==◌, ◌||◌, ◌&&◌, List, [], ◌∷◌, length, refl, ap, sym, ◌∙◌, arith}
 use Rattle.std.proofs.lemmas.Bool.{eq-eqb, eqb-true, not-true, or_cases, or_left, or_right}
-use Rattle.std.specs.List.{list_any}
 use Rattle.std.specs.Set.{distinct_count, is_member, unique_keys}
 use Rattle.eris_base.specs.declared.ids.ReplicaId.{ReplicaId}
 use Rattle.eris_base.specs.declared.ids.ShardId.{ShardId}
 use Rattle.eris_base.specs.Quorums.{same_replica}
-
-abbrev pub one_if : Bool → ℕ
-one_if true = 1
-one_if false = 0
+use Rattle.eris_calm_law.specs.Crashes.{how_many_down, is_down, one_if}
 
 -- how many of so many numbers from one on pass a test
 abbrev pub how_many : (ℕ → Bool) → ℕ → ℕ → ℕ
@@ -86,15 +82,6 @@ members_few (one ∷ replicas) from many = by_test (is_member same_replica repli
         there r e (inl same) = ap (λ (n : ℕ). is_member same_replica replicas (record { 0 = n })) (eqb-true r one.0 same) ∙ e
         there r e (inr here) = here
     by_test false rest e = let more = one_more (λ r. is_member same_replica replicas (record { 0 = r })) one.0 from many in omega arith
-
--- a replica of a shard is among those that are down
-abbrev pub is_down : List (ShardId × ReplicaId) → ℕ → ℕ → Bool
-is_down down shard replica = list_any (λ pair. (pair.0.0 == shard) && (pair.1.0 == replica)) down
-
--- how many are down on a shard
-abbrev pub how_many_down : List (ShardId × ReplicaId) → ℕ → ℕ
-how_many_down [] shard = 0
-how_many_down (pair ∷ down) shard = one_if (pair.0.0 == shard) + how_many_down down shard
 
 pub few_down : (down : List (ShardId × ReplicaId)) (shard from many : ℕ) → how_many (λ r. is_down down shard r) from many ≤ how_many_down down shard
 few_down [] shard from many = let none = nothing from many in omega arith

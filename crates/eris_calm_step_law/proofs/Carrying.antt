@@ -33,15 +33,18 @@ use Rattle.eris_epoch_law.specs.Members.{In}
 use Rattle.eris_epoch_law.proofs.Members.{In-left, In-right}
 use Rattle.eris_epoch_law.proofs.Frame.{replica_equal, shard_equal}
 use Rattle.eris_agreement.proofs.Cells.{cell, cell-same, everywhere}
-use Rattle.eris_undisturbed_law.proofs.Calm.{Down, Fine, IsCalmWorld, IsCarried, IsCell, IsJob, IsRight, Job, Lives, NumberedFrom, Said, Stage, Submitted, Votes, packet_of, voting}
-use Rattle.eris_undisturbed_law.proofs.Executing.{IsWhole, answered, ops_on}
-use Rattle.eris_undisturbed_law.proofs.Majorities.{is_down}
-use Rattle.eris_undisturbed_law.proofs.Moving.{Brings, job_kept, one_transaction, reads_itself, way_next}
-use Rattle.eris_undisturbed_law.proofs.Queues.{queue_more, queue_next}
-use Rattle.eris_undisturbed_law.proofs.Receiving.{replies, state_after, vouches}
-use Rattle.eris_undisturbed_law.proofs.Sending.{carrying, coming, coming-append, is_to}
-use Rattle.eris_undisturbed_law.proofs.Stamping.{known_shard, weigh-append, weight-vote}
-use Rattle.eris_undisturbed_law.proofs.Voting.{vote_by}
+use Rattle.eris_calm_law.specs.Calm.{Down, Fine, IsCalmWorld, IsCarried, IsCell, IsJob, IsRight, Job, Lives, NumberedFrom, Said, Stage, Submitted, Votes, packet_of, voting}
+use Rattle.eris_calm_law.specs.Carried.{carrying, coming, is_to}
+use Rattle.eris_calm_law.specs.Crashes.{is_down}
+use Rattle.eris_calm_law.specs.Packets.{IsWhole, ops_on}
+use Rattle.eris_calm_law.specs.Received.{state_after}
+use Rattle.eris_calm_law.specs.Noted.{vote_by}
+use Rattle.eris_calm_law.proofs.Executing.{answered}
+use Rattle.eris_calm_law.proofs.Moving.{Brings, job_kept, one_transaction, reads_itself, way_next}
+use Rattle.eris_calm_law.proofs.Queues.{queue_more, queue_next}
+use Rattle.eris_calm_law.proofs.Receiving.{replies, vouches}
+use Rattle.eris_calm_law.proofs.Sending.{coming-append}
+use Rattle.eris_calm_step_law.proofs.Stamping.{known_shard, weigh-append, weight-vote}
 
 module _ (config : ConfigValue) (limits : ShardId → ℕ) (budget : ℕ) (world : WorldState) (done rest : List Outgoing) (id : TxnId) (ops : List Op) (stamp : Stamp) (shard : ShardId) (number : ℕ) (job : IsJob config world.history id ops) (carried : IsCarried config ops stamp shard number) (calm : IsCalmWorld config limits budget world done (carrying (packet_of id ops stamp) shard number ∷ rest)) where
   abbrev packet : Packet

@@ -17,13 +17,13 @@ use Rattle.eris_script.specs.declared.event.Event.{Event}
 use Rattle.eris_rules.specs.declared.transaction.Vote.{Vote}
 use Rattle.eris_rules.specs.Happenings.{after_client, after_replica, after_sequencer, arrives, comes_to, delivers, flows, happens, sequencer_takes}
 use Rattle.eris_rules.specs.Worlds.{WorldState, no_longer_waiting, with_sends}
-use Rattle.eris_undisturbed_law.proofs.Answering.{answered_world, calm_answered, takes_vote}
-use Rattle.eris_undisturbed_law.proofs.Calm.{Asks, Carries, Fine, IsCalm, IsCalmWorld, IsCarried, IsJob, IsRight, Votes, asking, packet_of, voting}
-use Rattle.eris_undisturbed_law.proofs.Carrying.{calm_lost, calm_voted, takes_none, takes_packet, told, voted_world}
-use Rattle.eris_undisturbed_law.proofs.Majorities.{is_down}
-use Rattle.eris_undisturbed_law.proofs.Queues.{first_sent, first_waits, none_waits}
-use Rattle.eris_undisturbed_law.proofs.Sending.{carrying}
-use Rattle.eris_undisturbed_law.proofs.Stamping.{asked, calm_stamped, sends, stamped_world}
+use Rattle.eris_calm_law.specs.Calm.{Asks, Carries, Fine, IsCalm, IsCalmWorld, IsCarried, IsJob, IsRight, Votes, asking, packet_of, voting}
+use Rattle.eris_calm_law.specs.Carried.{carrying}
+use Rattle.eris_calm_law.specs.Crashes.{is_down}
+use Rattle.eris_calm_law.proofs.Queues.{first_sent, first_waits, none_waits}
+use Rattle.eris_calm_step_law.proofs.Answering.{answered_world, calm_answered, takes_vote}
+use Rattle.eris_calm_step_law.proofs.Carrying.{calm_lost, calm_voted, takes_none, takes_packet, told, voted_world}
+use Rattle.eris_calm_step_law.proofs.Stamping.{asked, calm_stamped, sends, stamped_world}
 
 module _ (config : ConfigValue) (limits : ShardId → ℕ) (budget : ℕ) (world : WorldState) where
   -- what holds of the world that it is, holds after it

@@ -39,11 +39,12 @@ use Rattle.eris_rules.specs.Worlds.{WorldState, no_longer_waiting, with_sends}
 use Rattle.eris_client_law.specs.Counts.{message_of, message_with}
 use Rattle.eris_epoch_law.specs.Members.{In}
 use Rattle.eris_epoch_law.proofs.Members.{Each-by_In, Each-flat_map, In-left, In-right, any_from}
-use Rattle.eris_undisturbed_law.proofs.Calm.{Carries, Coming, Fine, IsCalmWorld, IsCarried, IsCell, IsJob, NumberedFrom, Spread, Way, asking, packet_of, shards_of_ops, weigh, weight}
-use Rattle.eris_undisturbed_law.proofs.Moving.{Brings, job_kept, numbered_more, reads_itself, way_next}
-use Rattle.eris_undisturbed_law.proofs.Queues.{queue_more, queue_next}
-use Rattle.eris_undisturbed_law.proofs.Sending.{carrying, coming, is_to, packet_in, coming-append, coming_sent, next_known, next_names, next_number, sent_to}
-use Rattle.eris_undisturbed_law.proofs.Voting.{all_pass}
+use Rattle.eris_calm_law.specs.Calm.{Carries, Coming, Fine, IsCalmWorld, IsCarried, IsCell, IsJob, NumberedFrom, Spread, Way, asking, packet_of, shards_of_ops, weigh, weight}
+use Rattle.eris_calm_law.specs.Carried.{carrying, coming, is_to, packet_in}
+use Rattle.eris_calm_law.proofs.Moving.{Brings, job_kept, numbered_more, reads_itself, way_next}
+use Rattle.eris_calm_law.proofs.Queues.{queue_more, queue_next}
+use Rattle.eris_calm_law.proofs.Sending.{coming-append, coming_sent, next_known, next_names, next_number, sent_to}
+use Rattle.eris_calm_law.proofs.Voting.{all_pass}
 
 -- a transaction's shards are of the config
 known_keys : (config : ConfigValue) (keys : List Key) (shard : ShardId) → knows_keys config keys ≡ true → any_on keys shard ≡ true → shard.0 < config.shards

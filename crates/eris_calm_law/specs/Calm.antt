@@ -1,8 +1,7 @@
 -- WHAT HOLDS AT EVERY MOMENT of a run that nothing disturbs: what is sent waits in a queue; each replica that is up has
 -- the first packets of its shard; and each transaction is answered, or what it still needs is on its way.
-use Rattle.std.proofs.Common.{◌≡◌, ◌≤◌, ◌<◌, ◌+◌, ◌*◌, ℕ, true, false, Option, Some, is_some, List, [], ◌∷◌, ◌++◌, map, length}
+use Rattle.std.specs.Prelude.{◌≡◌, ◌≤◌, ◌<◌, ◌+◌, ◌*◌, ℕ, true, false, Option, Some, is_some, List, [], ◌∷◌, ◌++◌, map, length, ⊤}
 use Rattle.std.specs.List.{range_with_len}
-use Rattle.std.specs.Prelude.{⊤}
 use Rattle.eris_base.specs.declared.ids.ClientId.{ClientId}
 use Rattle.eris_base.specs.declared.ids.Node.TheVariants.{Sequencer, Client}
 use Rattle.eris_base.specs.declared.ids.Phase.{Phase}
@@ -37,12 +36,11 @@ use Rattle.eris_rules.specs.ReplicaStates.{ReplicaState}
 use Rattle.eris_rules.specs.Votes.{is_complete, vote_fits}
 use Rattle.eris_rules.specs.Worlds.{WorldState, client_at, replica_at}
 use Rattle.eris_epoch_law.specs.Members.{In}
-use Rattle.eris_undisturbed_law.specs.Undisturbed.{IsAnswered}
-use Rattle.eris_undisturbed_law.proofs.Executing.{IsWhole}
-use Rattle.eris_undisturbed_law.proofs.Majorities.{how_many_down, is_down}
-use Rattle.eris_undisturbed_law.proofs.Receiving.{state_after}
-use Rattle.eris_undisturbed_law.proofs.Sending.{carrying, coming}
-use Rattle.eris_undisturbed_law.proofs.Voting.{CountsAll, HasVote, vote_by}
+use Rattle.eris_calm_law.specs.Carried.{carrying, coming}
+use Rattle.eris_calm_law.specs.Crashes.{how_many_down, is_down}
+use Rattle.eris_calm_law.specs.Packets.{IsWhole}
+use Rattle.eris_calm_law.specs.Received.{state_after}
+use Rattle.eris_calm_law.specs.Noted.{CountsAll, HasVote, vote_by}
 
 -- ---- the messages
 abbrev pub asking : TxnId → List Op → Outgoing
@@ -59,6 +57,10 @@ shards_of_ops ops = participants_of (Independent ops)
 
 abbrev pub Submitted : List HistoryEvent → TxnId → List Op → Type 0
 Submitted history id ops = In (HistoryEvent.Submit id (Txn.Whole ops)) history
+
+-- it is answered
+abbrev pub IsAnswered : TxnId → List HistoryEvent → Type 0
+IsAnswered id history = (answer : Answer) × In (HistoryEvent.Answer id answer) history
 
 -- a transaction that was submitted, of a client and on shards of the config
 pub record IsJob (config : ConfigValue) (history : List HistoryEvent) (id : TxnId) (ops : List Op) : Type 0 where

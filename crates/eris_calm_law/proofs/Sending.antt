@@ -5,8 +5,6 @@ use Rattle.std.proofs.lemmas.Bool.{and_from, and_parts, cases_lt, cases_eq, eq-e
 use Rattle.std.specs.List.{flat_map, list_all, range_with_len}
 use Rattle.std.specs.Option.{option_map}
 use Rattle.std.specs.Prelude.{find, slice_index}
-use Rattle.eris_base.specs.declared.ids.Node.{Node}
-use Rattle.eris_base.specs.declared.ids.Node.TheVariants.{Replica}
 use Rattle.eris_base.specs.declared.ids.ReplicaId.{ReplicaId}
 use Rattle.eris_base.specs.declared.ids.ShardId.{ShardId}
 use Rattle.eris_base.specs.Places.{number_in}
@@ -14,36 +12,18 @@ use Rattle.eris_txn.specs.declared.packet.Packet.{Packet}
 use Rattle.eris_txn.specs.Bodies.{ascends_from, has_shard, participants_of}
 use Rattle.eris_txn.proofs.BodyLaws.{participants-ascend}
 use Rattle.eris_epoch.specs.SamePackets.{same_list}
-use Rattle.eris_msg.specs.declared.message.Message.{Message}
-use Rattle.eris_msg.specs.declared.message.Message.TheVariants.{Txn}
 use Rattle.eris_msg.specs.declared.outgoing.Outgoing.{Outgoing}
+use Rattle.eris_calm_law.specs.Carried.{carrying, coming, is_to, packet_in}
 use Rattle.eris_sequencer.specs.Asks.{sends_of, sends_to}
 use Rattle.eris_sequencer.specs.Stamps.{counter_of, next_places}
 use Rattle.eris_epoch_law.specs.Members.{In}
 use Rattle.eris_epoch_law.proofs.Members.{In-left, In-right}
-
-abbrev pub packet_in : Message → List Packet
-packet_in (Message.Txn packet) = packet ∷ []
-packet_in message = []
-
-abbrev pub is_to : ShardId → ReplicaId → Node → Bool
-is_to shard replica (Replica s r) = (s.0 == shard.0) && (r.0 == replica.0)
-is_to shard replica node = false
-
--- the packets in messages to a replica
-abbrev pub coming : ShardId → ReplicaId → List Outgoing → List Packet
-coming shard replica [] = []
-coming shard replica (one ∷ sent) = cond (is_to shard replica one.to) (packet_in one.message) [] ++ coming shard replica sent
 
 pub coming-append : (shard : ShardId) (replica : ReplicaId) (some more : List Outgoing) → coming shard replica (some ++ more) ≡ coming shard replica some ++ coming shard replica more
 coming-append shard replica [] more = refl
 coming-append shard replica (one ∷ some) more =
     ap (λ (rest : List Packet). cond (is_to shard replica one.to) (packet_in one.message) [] ++ rest) (coming-append shard replica some more)
     ∙ sym (append_assoc (cond (is_to shard replica one.to) (packet_in one.message) []) (coming shard replica some) (coming shard replica more))
-
--- a packet to a replica
-abbrev pub carrying : Packet → ShardId → ℕ → Outgoing
-carrying packet shard replica = record { to = Replica shard (record { 0 = replica }); message = Txn packet }
 
 module _ (packet : Packet) (shard : ShardId) (replica : ReplicaId) where
   -- to the replicas of a shard from one on

@@ -19,12 +19,11 @@ use Rattle.eris_rules.specs.ClientStates.{ClientState, transaction_at}
 use Rattle.eris_rules.specs.ReplicaStates.{ReplicaState}
 use Rattle.eris_rules.specs.Worlds.{client_at}
 use Rattle.eris_epoch_law.specs.Members.{In}
-use Rattle.eris_undisturbed_law.specs.Undisturbed.{IsAnswered}
-use Rattle.eris_undisturbed_law.proofs.Calm.{Asks, Carries, Coming, Done, Down, Fine, Heard, IsJob, Job, Lives, NumberedFrom, Open, Progress, Said, Spread, Stage, Submitted, Unstamped, Votes, Way, asking, packet_of, voting}
-use Rattle.eris_undisturbed_law.proofs.Sending.{carrying}
-use Rattle.eris_undisturbed_law.proofs.Voting.{HasVote, vote_by}
-use Rattle.eris_undisturbed_law.proofs.Executing.{IsWhole}
-use Rattle.eris_undisturbed_law.proofs.Majorities.{is_down}
+use Rattle.eris_calm_law.specs.Calm.{Asks, Carries, Coming, Done, Down, Fine, Heard, IsAnswered, IsJob, Job, Lives, NumberedFrom, Open, Progress, Said, Spread, Stage, Submitted, Unstamped, Votes, Way, asking, packet_of, voting}
+use Rattle.eris_calm_law.specs.Carried.{carrying}
+use Rattle.eris_calm_law.specs.Crashes.{is_down}
+use Rattle.eris_calm_law.specs.Packets.{IsWhole}
+use Rattle.eris_calm_law.specs.Noted.{HasVote, vote_by}
 
 -- a history has what another one has
 abbrev pub Keeps : List HistoryEvent → List HistoryEvent → Type 0

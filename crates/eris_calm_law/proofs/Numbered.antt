@@ -23,11 +23,7 @@ use Rattle.eris_log.specs.Sorted.{item_at, placed}
 use Rattle.eris_log.specs.Laws.Entries.{entry_of-txn, length_of-unique}
 use Rattle.eris_log.specs.Laws.Sorted.{with_item-absent}
 use Rattle.eris_log.specs.Laws.Held.{packet_at-item_at}
-
--- packets with the numbers that follow one
-abbrev pub numbered : ℕ → List Packet → List (ℕ × Packet)
-numbered from [] = []
-numbered from (packet ∷ packets) = (from + 1, packet) ∷ numbered (from + 1) packets
+use Rattle.eris_calm_law.specs.Received.{numbered, whole_part}
 
 pub at_number : (from : ℕ) (packets : List Packet) (i k : ℕ) → k ≡ from + 1 + i → packet_at (numbered from packets) k ≡ slice_get packets i
 unfolding packet_at
@@ -75,8 +71,8 @@ last_of [] packet = refl
 last_of (first ∷ packets) packet = last_of packets packet
 
 module _ (shard : ShardId) (packets : List Packet) where
-  abbrev pub whole_part : PartValue
-  whole_part = record { epoch = record { 0 = 0 }; shard = shard; held = numbered 0 packets; temp = []; fnd = []; perm = [] }
+  abbrev own_part : PartValue
+  own_part = whole_part shard packets
 
   none_in : (places : List Place) → list_any (λ place. contains_place [] place) places ≡ false
   unfolding contains_place
@@ -96,44 +92,44 @@ module _ (shard : ShardId) (packets : List Packet) where
   unfolding all_found
   all_clear stamp = all_in (places_of stamp)
 
-  by_held : (found : Option Packet) → is_held_and (λ packet. is_lost whole_part packet) found ≡ false
+  by_held : (found : Option Packet) → is_held_and (λ packet. is_lost own_part packet) found ≡ false
   by_held None = refl
   by_held (Some packet) = none_lost packet.stamp
 
-  not_dropped : (k : ℕ) → is_dropped whole_part k ≡ false
+  not_dropped : (k : ℕ) → is_dropped own_part k ≡ false
   unfolding is_dropped contains_place
   not_dropped k = by_held (packet_at (numbered 0 packets) k)
 
-  there : (k : ℕ) (packet : Packet) → packet_at (numbered 0 packets) k ≡ Some packet → is_txn whole_part k ≡ true
+  there : (k : ℕ) (packet : Packet) → packet_at (numbered 0 packets) k ≡ Some packet → is_txn own_part k ≡ true
   unfolding is_txn
   there k packet is =
-      ap (λ found. is_held_and (λ packet. not (is_lost whole_part packet) && is_clear whole_part packet) found) is
-      ∙ ap (λ b. not b && is_clear whole_part packet) (none_lost packet.stamp) ∙ all_clear packet.stamp
+      ap (λ found. is_held_and (λ packet. not (is_lost own_part packet) && is_clear own_part packet) found) is
+      ∙ ap (λ b. not b && is_clear own_part packet) (none_lost packet.stamp) ∙ all_clear packet.stamp
 
-  gone : (k : ℕ) → packet_at (numbered 0 packets) k ≡ None → is_txn whole_part k ≡ false
+  gone : (k : ℕ) → packet_at (numbered 0 packets) k ≡ None → is_txn own_part k ≡ false
   unfolding is_txn
-  gone k is = ap (λ found. is_held_and (λ packet. not (is_lost whole_part packet) && is_clear whole_part packet) found) is
+  gone k is = ap (λ found. is_held_and (λ packet. not (is_lost own_part packet) && is_clear own_part packet) found) is
 
   -- each number up to the last has its packet, and is open
   pub held_at : (k i : ℕ) → k ≡ i + 1 → packet_at (numbered 0 packets) k ≡ slice_get packets i
   held_at k i is = at_number 0 packets i k (omega arith)
 
-  pub open_entry : (k i : ℕ) → k ≡ i + 1 → i < length packets → entry_of whole_part k ≡ Txn
-  open_entry k i is low = let found = within packets i low in entry_of-txn whole_part k (not_dropped k) (there k found.0 (held_at k i is ∙ found.1))
+  pub open_entry : (k i : ℕ) → k ≡ i + 1 → i < length packets → entry_of own_part k ≡ Txn
+  open_entry k i is low = let found = within packets i low in entry_of-txn own_part k (not_dropped k) (there k found.0 (held_at k i is ∙ found.1))
 
-  no_gap : (k i : ℕ) → k ≡ i + 1 → i < length packets → is_gap whole_part k ≡ false
+  no_gap : (k i : ℕ) → k ≡ i + 1 → i < length packets → is_gap own_part k ≡ false
   unfolding is_gap
   no_gap k i is low =
       let found = within packets i low in
-      ap (λ b. not (b || is_txn whole_part k)) (not_dropped k) ∙ ap not (there k found.0 (held_at k i is ∙ found.1))
+      ap (λ b. not (b || is_txn own_part k)) (not_dropped k) ∙ ap not (there k found.0 (held_at k i is ∙ found.1))
 
-  a_gap : (k i : ℕ) → k ≡ i + 1 → length packets ≤ i → is_gap whole_part k ≡ true
+  a_gap : (k i : ℕ) → k ≡ i + 1 → length packets ≤ i → is_gap own_part k ≡ true
   unfolding is_gap
-  a_gap k i is past = ap (λ b. not (b || is_txn whole_part k)) (not_dropped k) ∙ ap not (gone k (held_at k i is ∙ beyond packets i past))
+  a_gap k i is past = ap (λ b. not (b || is_txn own_part k)) (not_dropped k) ∙ ap not (gone k (held_at k i is ∙ beyond packets i past))
 
   -- THE LENGTH is how many there are
-  pub whole_length : length_of whole_part ≡ length packets
-  whole_length = sym (length_of-unique whole_part (length packets) (record {
+  pub whole_length : length_of own_part ≡ length packets
+  whole_length = sym (length_of-unique own_part (length packets) (record {
     whole = λ n low high. no_gap n (n - 1) (omega arith) (omega arith);
     ends = a_gap (length packets + 1) (length packets) refl (omega arith);
   }))

@@ -34,13 +34,14 @@ use Rattle.eris_rules.specs.Worlds.{WorldState, client_at, with_sends}
 use Rattle.eris_client_law.proofs.Entries.{found_other, found_put}
 use Rattle.eris_epoch_law.specs.Members.{In}
 use Rattle.eris_epoch_law.proofs.Members.{In-append, In-left, In-right}
-use Rattle.eris_undisturbed_law.proofs.Answering.{client_put, clients_still, reads_past}
-use Rattle.eris_undisturbed_law.proofs.Calm.{Asks, Fine, IsCalmWorld, IsCell, IsJob, Job, NumberedFrom, Open, Submitted, Unstamped, asking, shards_of_ops}
-use Rattle.eris_undisturbed_law.proofs.Majorities.{how_many_down, is_down, one_if}
-use Rattle.eris_undisturbed_law.proofs.Moving.{Keeps, all_fine, job_kept, lives_still, reads_itself, way_kept}
-use Rattle.eris_undisturbed_law.proofs.Queues.{queue_more}
-use Rattle.eris_undisturbed_law.proofs.Sending.{coming, coming-append}
-use Rattle.eris_undisturbed_law.proofs.Stamping.{weigh-append}
+use Rattle.eris_calm_law.specs.Calm.{Asks, Fine, IsCalmWorld, IsCell, IsJob, Job, NumberedFrom, Open, Submitted, Unstamped, asking, shards_of_ops}
+use Rattle.eris_calm_law.specs.Carried.{coming}
+use Rattle.eris_calm_law.specs.Crashes.{how_many_down, is_down, one_if}
+use Rattle.eris_calm_law.proofs.Moving.{Keeps, all_fine, job_kept, lives_still, reads_itself, way_kept}
+use Rattle.eris_calm_law.proofs.Queues.{queue_more}
+use Rattle.eris_calm_law.proofs.Sending.{coming-append}
+use Rattle.eris_calm_step_law.proofs.Answering.{client_put, clients_still, reads_past}
+use Rattle.eris_calm_step_law.proofs.Stamping.{weigh-append}
 
 -- ---- what is taken
 record IsTaken (config : ConfigValue) (client : ClientId) (ops : List Op) : Type 0 where

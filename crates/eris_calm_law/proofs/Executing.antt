@@ -1,10 +1,10 @@
 -- WHERE ALL PACKETS ARE OF INDEPENDENT TRANSACTIONS, the shard's store answers each at once: nobody holds locks,
 -- so nobody waits for one. An id that comes again gets the answer that was recorded, which has as many items.
 -- Used where a learner gets a packet.
-use Rattle.std.proofs.Common.{◌≡◌, ℕ, suc, not, Bool, true, false, cond, ◌==◌, ◌&&◌, Option, Some, None, List, [], ◌∷◌, length, map, refl, ap, sym, ◌∙◌, subst}
+use Rattle.std.proofs.Common.{◌≡◌, suc, not, Bool, true, false, cond, ◌==◌, ◌&&◌, Option, Some, None, List, [], ◌∷◌, length, map, refl, ap, sym, ◌∙◌, subst}
 use Rattle.std.proofs.lemmas.List.Sums.{length-filter}
 use Rattle.eris_txn.specs.declared.key.Key.{Key}
-use Rattle.std.specs.List.{filter, count_by}
+use Rattle.std.specs.List.{filter}
 use Rattle.std.specs.Prelude.{find}
 use Rattle.std.specs.Option.{option_map}
 use Rattle.eris_base.specs.declared.ids.ClientId.{ClientId}
@@ -27,25 +27,7 @@ use Rattle.eris_locks.specs.declared.done.Done.{Done}
 use Rattle.eris_locks.specs.declared.shard_packet.ShardPacket.{ShardPacket}
 use Rattle.eris_locks.specs.Shards.{cut, cut_body, is_on, names_shard, on_shard, place_on}
 use Rattle.eris_locks.specs.States.{StoreState, empty}
-
--- how many of some operations are on a shard
-abbrev pub ops_on : ShardId → List Op → ℕ
-ops_on shard ops = count_by (λ key. key.shard.0 == shard.0) (map key_of ops)
-
--- the answer has an item for each of so many operations
-pub record HasItems (answer : Answer) (count : ℕ) : Type 0 where
-  pub items : List _
-  pub is : answer ≡ Answer.Ops items
-  pub many : length items ≡ count
-
-module _ (Known : TxnId → List Op → Type 0) where
-  -- the packet of a known transaction
-  pub record IsPacketOf (packet : Packet) (ops : List Op) : Type 0 where
-    pub body : packet.body ≡ Independent ops
-    pub known : Known packet.id ops
-
-  abbrev pub IsWhole : Packet → Type 0
-  IsWhole packet = (ops : List Op) × IsPacketOf packet ops
+use Rattle.eris_calm_law.specs.Packets.{HasItems, IsPacketOf, IsWhole, ops_on}
 
 module _ (shard : ShardId) (Known : TxnId → List Op → Type 0) (one : (id : TxnId) (ops others : List Op) → Known id ops → Known id others → ops ≡ others) where
   -- nobody holds or waits, and what is recorded has as many items as it should

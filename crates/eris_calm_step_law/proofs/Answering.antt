@@ -27,13 +27,12 @@ use Rattle.eris_client_law.specs.Counts.{message_of}
 use Rattle.eris_epoch_law.specs.Members.{In}
 use Rattle.eris_epoch_law.proofs.Members.{In-left, In-right}
 use Rattle.eris_agreement.proofs.Cells.{get-set, get-set_same}
-use Rattle.eris_undisturbed_law.specs.Undisturbed.{IsAnswered}
-use Rattle.eris_undisturbed_law.proofs.Calm.{Done, Heard, IsCalmWorld, IsCell, IsJob, IsOpen, IsQueue, IsRight, Job, Open, Progress, Submitted, Way, voting}
-use Rattle.eris_undisturbed_law.proofs.Counting.{Hears, heard, in_place_by, keeps_with, same_vote, submits_none}
-use Rattle.eris_undisturbed_law.proofs.Moving.{Brings, Keeps, ReadsSame, all_fine, answered_still, job_kept, job_still, lives_still, one_transaction, way_next}
-use Rattle.eris_undisturbed_law.proofs.Queues.{queue_more, queue_next}
-use Rattle.eris_undisturbed_law.proofs.Stamping.{weight-vote}
-use Rattle.eris_undisturbed_law.proofs.Voting.{CountsAll, HasVote, vote_by}
+use Rattle.eris_calm_law.specs.Calm.{Done, Heard, IsAnswered, IsCalmWorld, IsCell, IsJob, IsOpen, IsQueue, IsRight, Job, Open, Progress, Submitted, Way, voting}
+use Rattle.eris_calm_law.specs.Noted.{CountsAll, HasVote, vote_by}
+use Rattle.eris_calm_law.proofs.Moving.{Brings, Keeps, ReadsSame, all_fine, answered_still, job_kept, job_still, lives_still, one_transaction, way_next}
+use Rattle.eris_calm_law.proofs.Queues.{queue_more, queue_next}
+use Rattle.eris_calm_step_law.proofs.Counting.{Hears, heard, in_place_by, keeps_with, same_vote, submits_none}
+use Rattle.eris_calm_step_law.proofs.Stamping.{weight-vote}
 
 -- ---- a client is changed
 -- what stands for a client after another is put

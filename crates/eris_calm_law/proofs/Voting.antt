@@ -19,7 +19,9 @@ use Rattle.eris_rules.specs.declared.transaction.Vote.{Vote}
 use Rattle.eris_rules.specs.Votes.{agrees_with, answer_by_votes, first_answer, is_counted, votes_with, with_answer, with_counted, with_vote}
 use Rattle.eris_epoch_law.specs.Members.{In}
 use Rattle.eris_epoch_law.proofs.Members.{In-append, any_from}
-use Rattle.eris_undisturbed_law.proofs.Majorities.{how_many_down, is_down, majority}
+use Rattle.eris_calm_law.specs.Crashes.{how_many_down, is_down}
+use Rattle.eris_calm_law.specs.Noted.{CountsAll, HasVote, vote_by}
+use Rattle.eris_calm_law.proofs.Majorities.{majority}
 
 -- ---- lists
 any_last : {X : Type 0} (test : X → Bool) (xs : List X) (x : X) → test x ≡ true → list_any test (xs ++ x ∷ []) ≡ true
@@ -118,10 +120,6 @@ same_votes votes vote other one =
     ∙ ap (λ (v : View). votes_of votes vote.shard v other.stamp) one.view_is
     ∙ ap (λ (s : Stamp). votes_of votes vote.shard vote.view s) one.stamp_is
 
--- where the votes make an answer, the shard is counted
-pub record CountsAll (f : ℕ) (votes : List Vote) (counted : List (ShardId × Answer)) : Type 0 where
-  pub at : (vote : Vote) (answer : Answer) → In vote votes → answer_by_votes f (votes_with votes vote) ≡ Some answer → is_counted counted vote.shard ≡ true
-
 -- ONE MORE VOTE
 module _ (f : ℕ) (transaction : Transaction) (vote : Vote) (counts : CountsAll f transaction.votes transaction.counted) where
   abbrev votes : List Vote
@@ -151,16 +149,6 @@ module _ (f : ℕ) (transaction : Transaction) (vote : Vote) (counts : CountsAll
   counts_more = record { at = λ other answer i made. by_test other answer i made (agrees_with other vote) refl }
 
 -- ---- a majority
--- the vote of a replica in view 0
-abbrev pub vote_by : ShardId → ReplicaId → Stamp → Option Answer → Vote
-vote_by shard replica stamp found = record { shard = shard; replica = replica; view = record { 0 = 0 }; stamp = stamp; answer = found }
-
--- a replica's vote is there, with an answer where it is the learner's
-pub record HasVote (votes : List Vote) (shard : ShardId) (replica : ReplicaId) (stamp : Stamp) : Type 0 where
-  pub found : Option Answer
-  pub learner : replica.0 ≡ 0 → is_some found ≡ true
-  pub there : In (vote_by shard replica stamp found) votes
-
 some_first : (votes : List Vote) (vote : Vote) → In vote votes → is_some vote.answer ≡ true → (answer : Answer) × (first_answer votes ≡ Some answer)
 some_first [] vote i some = absurd i
 some_first (one ∷ votes) vote i some = by_answer one.answer refl i (λ later. some_first votes vote later some)

@@ -4,7 +4,7 @@ use Rattle.std.proofs.lemmas.Bool.{eq-eqb, ne_eqb}
 use Rattle.std.specs.List.{filter, range_with_len}
 use Rattle.std.specs.Prelude.{slice_get}
 use Rattle.eris_msg.specs.declared.outgoing.Outgoing.{Outgoing}
-use Rattle.eris_undisturbed_law.proofs.Calm.{IsQueue}
+use Rattle.eris_calm_law.specs.Calm.{IsQueue}
 
 all_above : (number from many : ℕ) → number < from → filter (λ other. not (other == number)) (range_with_len from many) ≡ range_with_len from many
 all_above number from zero high = refl

@@ -1,0 +1,9 @@
+pub mod Majorities
+pub mod Executing
+pub mod Numbered
+pub mod Receiving
+pub mod Voting
+pub mod Sending
+pub mod Queues
+pub mod Moving
+pub mod Prompt
