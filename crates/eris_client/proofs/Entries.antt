@@ -13,7 +13,8 @@ use Rattle.std.proofs.lemmas.Cmp.{nat_cmp_total, on_total, then_total, tied_itse
 use Rattle.std.proofs.lemmas.Map.Lookups.{CmpEqualImpliesEq, exact_unsigned, exact_pairs}
 use Rattle.eris_base.specs.declared.ids.TxnId.{TxnId}
 use Rattle.eris_rules.specs.declared.transaction.Transaction.{Transaction}
-use Rattle.eris_rules.specs.ClientStates.{ClientState, txn_id_cmp, with_transaction}
+use Rattle.eris_rules.specs.ClientStates.{ClientIdentity, ClientState, txn_id_cmp, with_transaction}
+use Rattle.eris_client.specs.ClientValues.{StateValue}
 
 ids_total : IsTotalOrder txn_id_cmp
 ids_total = then_total (on_total (λ (id : TxnId). id.client.0) nat_cmp_total) (on_total (λ (id : TxnId). id.number) nat_cmp_total)
@@ -96,10 +97,14 @@ put_back (entry ∷ entries) id transaction sorted found = by_order (txn_id_cmp 
         ap (λ (order : Ordering). match_ordering order ((id, transaction) ∷ entry ∷ taken entries id) ((entry.0, transaction) ∷ taken entries id) (entry ∷ put (taken entries id) id transaction)) is
         ∙ ap (λ (more : Entries). entry ∷ more) (rest here)
 
--- at what a look-up found
-pub put_back_found : (entries : Entries) (id : TxnId) (found : Option Transaction) → IsStrictlySortedBy txn_id_cmp (keys_of entries)
-    → lookup (is_at (txn_id_cmp id)) entries ≡ found → IfSome found (λ transaction. put (taken entries id) id transaction ≡ entries)
-put_back_found entries id None sorted h = tt
-put_back_found entries id (Some transaction) sorted h = put_back entries id transaction sorted h
+abbrev kept : ClientIdentity → ℕ → Entries → StateValue
+kept me submitted entries = record { me = me; state = record { submitted = submitted; transactions = entries } }
 
-pub ruleset taking = (put_back_found)
+-- in a state, by what was found
+pub taken_out : (me : ClientIdentity) (submitted : ℕ) (entries left : Entries) (id : TxnId) (found : Option Transaction) → IsStrictlySortedBy txn_id_cmp (keys_of entries)
+    → found ≡ lookup (is_at (txn_id_cmp id)) entries → left ≡ taken entries id
+    → IfSome found (λ transaction. kept me submitted entries ≡ record (kept me submitted left) { state = with_transaction (kept me submitted left).state id transaction })
+unfolding with_transaction
+taken_out me submitted entries left id None sorted is out = tt
+taken_out me submitted entries left id (Some transaction) sorted is out =
+    ap (λ (made : Entries). kept me submitted made) (sym (put_back entries id transaction sorted (sym is)) ∙ ap (λ (rest : Entries). put rest id transaction) (sym out))

@@ -1,17 +1,19 @@
 -- A client whose numbers, ids and bodies are in their ranges stays so by each of its steps, and its Asks are. Used
 -- where the calls of a client say so.
-use Rattle.std.proofs.Common.{◌≡◌, ◌<◌, ◌≤◌, ◌%◌, ◌+◌, ◌-◌, ◌^◌, ℕ, Bool, true, false, cond, ◌&&◌, nat_lt, nat_le, Option, Some, None, List, [], ◌∷◌, ◌++◌, length, map, unwrap_or, refl, ap, sym, ◌∙◌, subst, arith}
+use Rattle.std.proofs.Common.{◌≡◌, ◌<◌, ◌≤◌, ◌%◌, ◌+◌, ◌-◌, ◌^◌, ℕ, Bool, true, false, cond, ◌&&◌, nat_lt, nat_le, Option, Some, None, List, [], ◌∷◌, ◌++◌, length, map, unwrap_or, IfSome, OnSome, refl, ap, sym, ◌∙◌, subst, arith}
 use Rattle.std.specs.BTreeMap.{is_at, insert_entry}
 use Rattle.std.specs.List.{list_any}
 use Rattle.std.specs.Map.{lookup}
 use Rattle.std.specs.Ordering.{is_eq, match_ordering}
 use Rattle.std.specs.declared.cmp.Ordering.{Ordering}
 use Rattle.std.specs.declared.cmp.Ordering.TheVariants.{Less, Equal, Greater}
-use Rattle.std.proofs.lemmas.Bool.{and_from, and_parts, cond_both, lt-ltb, le-leb}
+use Rattle.std.proofs.lemmas.Bool.{and_from, and_parts, cond_both, lt-ltb, le-leb, ltb-true}
 use Rattle.std.proofs.lemmas.List.{length-map}
+use Rattle.eris_base.specs.declared.ids.ClientId.{ClientId}
 use Rattle.eris_base.specs.declared.ids.Phase.{Phase}
 use Rattle.eris_base.specs.declared.ids.ShardId.{ShardId}
 use Rattle.eris_base.specs.declared.ids.TxnId.{TxnId}
+use Rattle.eris_base.specs.ConfigLimits.{ConfigValue, IsConfig}
 use Rattle.eris_base.specs.Each.{Each}
 use Rattle.eris_txn.specs.declared.answer.Answer.{Answer}
 use Rattle.eris_txn.specs.declared.body.Body.{Body}
@@ -27,9 +29,10 @@ use Rattle.eris_txn.specs.declared.plan.Write.{Write}
 use Rattle.eris_txn.specs.declared.txn.Txn.{Txn}
 use Rattle.eris_txn.specs.Keys as keys
 use Rattle.eris_txn.specs.PlanValues.{PlanValue}
-use Rattle.eris_txn.specs.Plans.{guards_hold, locks_in, locks_of, mode_of, set_by, writes_from}
+use Rattle.eris_txn.specs.Plans.{guards_hold, locks_in, locks_of, mode_of, set_by, value_in, writes_from}
 use Rattle.eris_general.specs.Outcomes.{conclusion_of, is_aborted}
 use Rattle.eris_msg.specs.declared.message.Message.{Message}
+use Rattle.eris_msg.specs.declared.outgoing.Outgoing.{Outgoing}
 use Rattle.eris_msg.specs.Codecs.{Codec, items_fit}
 use Rattle.eris_msg.specs.Fields as f
 use Rattle.eris_msg.specs.Spellings.{body_fits}
@@ -38,12 +41,15 @@ use Rattle.eris_rules.specs.declared.transaction.Course.{Course}
 use Rattle.eris_rules.specs.declared.transaction.Course.TheVariants.{Executing, Reading, Concluding, Aborting}
 use Rattle.eris_rules.specs.declared.transaction.Transaction.{Transaction}
 use Rattle.eris_rules.specs.declared.transaction.Vote.{Vote}
-use Rattle.eris_rules.specs.ClientStates.{ClientIdentity, ClientOut, ClientState, begun_half, body_of, course_of, next_id, transaction_at, txn_id_cmp, with_transaction}
-use Rattle.eris_rules.specs.Clients.{abort, aborts, answers_counted, ask_for, asks_again, begins_half, client_step, client_takes, completes, concludes, finishes, goes_on, has_concluded, has_read, hears_late, hears_late_of, hears_vote, hears_vote_of, idle, is_executed, is_told, late_row, own_id, retries, retry, submit, vote_row}
+use Rattle.eris_rules.specs.ClientStates.{ClientIdentity, ClientOut, ClientState, begun_half, body_of, course_of, first_client, next_id, plan_of, transaction_at, txn_id_cmp, with_transaction}
+use Rattle.eris_rules.specs.Clients.{abort, aborts, all_values, answers_counted, ask_for, asks_again, begins_half, client_step, client_takes, completes, concludes, finishes, goes_on, has_concluded, has_read, hears_late, hears_late_of, hears_vote, hears_vote_of, idle, is_executed, is_told, late_row, own_id, retries, retry, submit, vote_row}
+use Rattle.eris_rules.specs.Happenings.{plan_of_transaction}
+use Rattle.eris_rules.specs.Known.{knows_client}
 use Rattle.eris_rules.specs.InPlace.{is_in_place_at_client}
 use Rattle.eris_rules.specs.Votes.{is_complete, late_fits, vote_fits, waits_for, with_late, with_vote}
 use Rattle.eris_in_place.specs.MessageRanges.{SendsFit}
 use Rattle.eris_client.specs.ClientRanges.{CourseFits, EntryFits, HowFits, PlanFits, SettingFits, StateFits, StepFits, TxnFits}
+use Rattle.eris_client.specs.ClientValues.{StateValue, after}
 use Rattle.eris_client.proofs.Entries.{one_id}
 
 -- ---- lists of items
@@ -174,7 +180,7 @@ module _ (me : ClientIdentity) (state : ClientState) (fits : StateFits me state)
   pub asks_again-fits : (id : TxnId) (transaction : Transaction) → EntryFits (id, transaction) → StepFits me (asks_again me state id transaction)
   unfolding asks_again
   asks_again-fits id transaction k =
-      cond_both transaction.finished (idle state) _ (StepFits me)
+      cond_both transaction.finished (idle state) (record { state = state; sends = ask_for me id (body_of transaction.course) ∷ []; event = None }) (StepFits me)
       (λ _. idle-fits)
       (λ _. record { state = fits; sends = ask-fits id transaction.course k.id k.course })
 
@@ -182,12 +188,19 @@ module _ (me : ClientIdentity) (state : ClientState) (fits : StateFits me state)
   unfolding finishes
   finishes-fits id transaction event k = record { state = with-fits id (record transaction { finished = true }) k.id k.course; sends = tt }
 
+  concludes-fits : (id : TxnId) (plan : PlanValue) (values : List (Option ℕ)) → f.id.fits id ≡ true → PlanFits plan → StepFits me (concludes me state id plan values)
+  unfolding concludes
+  concludes-fits id plan values i p =
+      begins-fits id (Concluding plan (conclusion_of plan (value_in plan.keys values))) (Some (HistoryEvent.Read id values)) i (p, conclusion_fits plan (value_in plan.keys values) p)
+
   has_read-fits : (id : TxnId) (transaction : Transaction) (plan : PlanValue) → EntryFits (id, transaction) → PlanFits plan → StepFits me (has_read me state id transaction plan)
-  unfolding has_read concludes
+  unfolding has_read
   has_read-fits id transaction plan k p =
-      cond_both (list_any is_aborted (answers_counted transaction)) (finishes state id transaction _) (begins_half me state id (Concluding plan (conclusion_of plan _)) _) (StepFits me)
-      (λ _. finishes-fits id transaction _ k)
-      (λ _. begins-fits id _ _ k.id (p, conclusion_fits plan _ p))
+      let aborted : HistoryEvent = HistoryEvent.Answer id Answer.Aborted in
+      let values : List (Option ℕ) = all_values (body_of transaction.course) transaction.counted in
+      cond_both (list_any is_aborted (answers_counted transaction)) (finishes state id transaction aborted) (concludes me state id plan values) (StepFits me)
+      (λ _. finishes-fits id transaction aborted k)
+      (λ _. concludes-fits id plan values k.id p)
 
   completes-fits : (id : TxnId) (transaction : Transaction) (course : Course) → EntryFits (id, transaction) → CourseFits course → StepFits me (completes me state id transaction course)
   unfolding is_executed has_concluded is_told
@@ -295,3 +308,50 @@ unfolding submit
 submit-fits me state txn fits room k =
     begins-fits me (record state { submitted = state.submitted + 1 }) (record { client = fits.client; transactions = fits.transactions }) (next_id me state) (course_of txn)
     (Some (HistoryEvent.Submit (next_id me state) txn)) (next_id-fits me state fits.client room) k
+
+-- the client at its start
+pub first-fits : (config : ConfigValue) (client : ClientId) → knows_client config client ≡ true → IsConfig config → StateFits (record { config = config; client = client }) first_client
+unfolding f.client f.from_to f.byte first_client
+first-fits config client known is =
+    let below : client.0 < config.clients = ltb-true client.0 config.clients known in
+    record {
+      client =
+          and_from (nat_lt client.0 256) (nat_le 0 client.0 && nat_le client.0 127) (lt-ltb client.0 256 (omega (arith, is.few_clients)))
+          (and_from (nat_le 0 client.0) (nat_le client.0 127) (le-leb 0 client.0 (omega arith)) (le-leb client.0 127 (omega (arith, is.few_clients))));
+      transactions = tt;
+    }
+
+-- ---- a state that a step left, and what it sent
+abbrev Left : Type 0
+Left = StateValue × (List Outgoing × Option HistoryEvent)
+
+pub left_fits : (old new : StateValue) (out : ClientOut) (sends : List Outgoing) (event : Option HistoryEvent) → StepFits old.me out → ◌≡◌ {A = Left} (new, (sends, event)) (after old out) → StateFits new.me new.state
+left_fits old new out sends event fits same =
+    let e : new ≡ record old { state = out.state } = ap (λ (left : Left). left.0) same in
+    subst (λ (value : StateValue). StateFits value.me value.state) (sym e) fits.state
+
+pub sent_fits : (old new : StateValue) (out : ClientOut) (sends : List Outgoing) (event : Option HistoryEvent) → StepFits old.me out → ◌≡◌ {A = Left} (new, (sends, event)) (after old out) → SendsFit sends
+sent_fits old new out sends event fits same =
+    let e : sends ≡ out.sends = ap (λ (left : Left). left.1.0) same in
+    subst SendsFit (sym e) fits.sends
+
+-- ---- what is kept, by the look-up
+pub plan_kept : (me : ClientIdentity) (state : ClientState) (id : TxnId) → StateFits me state → IfSome (plan_of_transaction (transaction_at state id)) PlanFits
+plan_kept me state id fits = by_found (transaction_at state id) (λ transaction is. (at-fits me state fits id transaction is).course)
+  where
+    by_course : (course : Course) → CourseFits course → IfSome (plan_of course) PlanFits
+    by_course (Executing ops) k = tt
+    by_course (Reading plan) k = k
+    by_course (Concluding plan body) k = k.0
+    by_course (Aborting keys) k = tt
+
+    by_found : (found : Option Transaction) → ((transaction : Transaction) → found ≡ Some transaction → CourseFits transaction.course) → IfSome (plan_of_transaction found) PlanFits
+    by_found None k = tt
+    by_found (Some transaction) k = by_course transaction.course (k transaction refl)
+
+pub id_kept : (me : ClientIdentity) (state : ClientState) (id : TxnId) → StateFits me state → OnSome (transaction_at state id) (f.id.fits id ≡ true)
+id_kept me state id fits = by_found (transaction_at state id) (λ transaction is. (at-fits me state fits id transaction is).id)
+  where
+    by_found : (found : Option Transaction) → ((transaction : Transaction) → found ≡ Some transaction → f.id.fits id ≡ true) → OnSome found (f.id.fits id ≡ true)
+    by_found None k = tt
+    by_found (Some transaction) k = k transaction refl

@@ -67,23 +67,23 @@ value_fits : (n : ℕ) → n < 2 ^ 64 → f.value.fits n ≡ true
 unfolding f.value
 value_fits n small = lt-ltb n (2 ^ 64) small
 
-get_fits : (key : Key) → f.key.fits key ≡ true → f.op.fits (Get key) ≡ true
+pub get_fits : (key : Key) → f.key.fits key ≡ true → f.op.fits (Get key) ≡ true
 unfolding f.op f.op_fits
 get_fits key h = h
 
-put_fits : (key : Key) (value : ℕ) → value < 2 ^ 64 → f.key.fits key ≡ true → f.op.fits (Put key value) ≡ true
+pub put_fits : (key : Key) (value : ℕ) → value < 2 ^ 64 → f.key.fits key ≡ true → f.op.fits (Put key value) ≡ true
 unfolding f.op f.op_fits
 put_fits key value small h = and_from (f.key.fits key) (f.value.fits value) h (value_fits value small)
 
-del_fits : (key : Key) → f.key.fits key ≡ true → f.op.fits (Del key) ≡ true
+pub del_fits : (key : Key) → f.key.fits key ≡ true → f.op.fits (Del key) ≡ true
 unfolding f.op f.op_fits
 del_fits key h = h
 
-add_fits : (key : Key) (more : ℕ) → more < 2 ^ 64 → f.key.fits key ≡ true → f.op.fits (Add key more) ≡ true
+pub add_fits : (key : Key) (more : ℕ) → more < 2 ^ 64 → f.key.fits key ≡ true → f.op.fits (Add key more) ≡ true
 unfolding f.op f.op_fits
 add_fits key more small h = and_from (f.key.fits key) (f.value.fits more) h (value_fits more small)
 
-cas_fits : (key : Key) (expected value : ℕ) → expected < 2 ^ 64 → value < 2 ^ 64 → f.key.fits key ≡ true → f.op.fits (Cas key expected value) ≡ true
+pub cas_fits : (key : Key) (expected value : ℕ) → expected < 2 ^ 64 → value < 2 ^ 64 → f.key.fits key ≡ true → f.op.fits (Cas key expected value) ≡ true
 unfolding f.op f.op_fits
 cas_fits key expected value small few h =
     and_from (f.key.fits key) (f.value.fits expected && f.value.fits value) h

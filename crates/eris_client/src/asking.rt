@@ -1,5 +1,5 @@
 //! What a client asks the sequencer to stamp.
-ghost use Rattle.std.specs.Prelude.{◌≡◌, ◌+◌, ◌<◌, ◌^◌, [], ◌∷◌, None, Some, IfOk, IfSome, is_none};
+ghost use Rattle.std.specs.Prelude.{◌≡◌, ◌+◌, ◌<◌, ◌^◌, [], ◌∷◌, None, Some, true, is_some, IfOk, IfSome, OnErr, OnOk};
 ghost use Rattle.eris_txn.specs.declared.history.HistoryEvent.TheVariants as events;
 ghost use Rattle.eris_rules.specs.ClientStates.{begun_half, body_of, transaction_at, with_transaction};
 ghost use Rattle.eris_rules.specs.Clients.{abort, ask_for, asks_again, own_id, retry, submit};
@@ -40,9 +40,10 @@ impl State {
     /// Its transaction of this number is asked for again. None where it has none of this number.
     #[tactic(auto, unfolding(eris_rules::specs::Clients::retry))]
     pub fn retry(&self, number: u32) -> Result<Option<Row<Outgoing>>, NoMemory>
-        ensures none { IfOk result (λ found. is_none found ≡ is_none (transaction_at self.now.state (own_id self.now.me number))) }
+        ensures known { IfOk result (λ found. is_some found ≡ is_some (transaction_at self.now.state (own_id self.now.me number))) }
         ensures exact { IfOk result (λ found. IfSome found (λ sends. (self.now, (sends, None))
             ≡ after self.now (retry self.now.me self.now.state number))) }
+        ensures err { OnErr result (is_some (transaction_at self.now.state (own_id self.now.me number)) ≡ true) }
     {
         let id = self.own_id(number);
         match self.transaction(id) {
@@ -75,8 +76,8 @@ impl State {
 
     /// A half of a transaction begins, with an Ask of its body.
     pub fn begin(&mut self, id: TxnId, course: Course) -> Result<Row<Outgoing>, NoMemory>
-        ensures { IfOk result (λ sends. (self.new, sends)
-            ≡ (record self.old { state = with_transaction self.old.state id (begun_half course) }, ask_for self.old.me id (body_of course) ∷ [])) }
+        ensures state { OnOk result (self.new ≡ record self.old { state = with_transaction self.old.state id (begun_half course) }) }
+        ensures sends { IfOk result (λ sends. sends ≡ ask_for self.old.me id (body_of course) ∷ []) }
     {
         let sends = self.ask(id, &course)?;
         self.put(id, begun(self.alloc, course))?;

@@ -49,6 +49,8 @@ impl Client {
         requires { IsTrue (knows_client config client) }
         ensures { result ≡ record { me = record { config = config; client = client }; state = first_client; spent = false } }
     {
+        let clients = config.clients();
+        prove!(client.0 < clients);
         Client {
             alloc,
             state: State::new(alloc, config, client),
@@ -207,8 +209,8 @@ impl Client {
     pub fn plan(&self, number: u32) -> Option<&Plan>
         requires { self.now.spent ≡ false }
         ensures exact { option_copied result ≡ plan_of_transaction (transaction_at self.now.state (own_id self.now.me number)) }
-        ensures fits { IfSome result (λ plan. PlanFits plan.now) }
-        ensures id { OnSome result (f.id.fits (own_id self.now.me number) ≡ true) }
+        ensures fits { IfSome (plan_of_transaction (transaction_at self.now.state (own_id self.now.me number))) PlanFits }
+        ensures id { OnSome (transaction_at self.now.state (own_id self.now.me number)) (f.id.fits (own_id self.now.me number) ≡ true) }
     {
         plan_of(&self.state.transaction(self.state.own_id(number))?.course)
     }

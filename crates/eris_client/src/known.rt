@@ -23,6 +23,7 @@ pub fn knows_txn(config: &Config, txn: &Txn) -> bool
     }
 }
 
+#[tactic(auto, unfolding(eris_rules::specs::Known::knows_keys))]
 fn knows_ops(config: &Config, ops: &[Op]) -> bool
     ensures exact { result ≡ knows_keys config.now (map key_of ops.now) }
     ensures fits { result ≡ true → Each (λ op. f.op.fits op ≡ true) ops.now }
@@ -68,6 +69,7 @@ fn knows_key(config: &Config, key: &Key) -> bool
     key.shard.0 < config.shards()
 }
 
+#[tactic(auto, unfolding(eris_rules::specs::Known::knows_keys))]
 fn knows_keys(config: &Config, keys: &[Key]) -> bool
     ensures exact { result ≡ knows_keys config.now keys.now }
     ensures fits { result ≡ true → Each (λ key. f.key.fits key ≡ true) keys.now }

@@ -93,7 +93,7 @@ impl State {
     }
 
     /// Takes the transaction of an id out, if it has it, so that it can be changed and put back.
-    #[tactic(auto, using(crate::proofs::Entries::taking), unfolding(eris_rules::specs::ClientStates::transaction_at, eris_rules::specs::ClientStates::with_transaction))]
+    #[tactic(auto, unfolding(eris_rules::specs::ClientStates::transaction_at, eris_rules::specs::ClientStates::with_transaction))]
     pub fn take(&mut self, id: TxnId) -> Option<Transaction>
         ensures found { result ≡ transaction_at self.old.state id }
         ensures none { IfNone result (self.new ≡ self.old) }

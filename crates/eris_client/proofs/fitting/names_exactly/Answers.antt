@@ -11,4 +11,4 @@ pub returns : goal.returns
 returns c =
     c.names_shards.ensures
     ∙ ap (λ (shards : List ShardId). list_all (λ place. has_shard shards place.0) c.args.stamp.now.places && list_all (λ shard. is_some (number_in c.args.stamp.now.places shard)) shards) c.requires
-    ∙ sym (names_items (body_of c.args.course.now) c.args.stamp.now c.places-_places.ensures.fits)
+    ∙ sym (names_items (body_of c.args.course.now) c.args.stamp.now c.places-places.ensures.fits)
