@@ -335,6 +335,11 @@ sent_fits old new out sends event fits same =
     let e : sends ≡ out.sends = ap (λ (left : Left). left.1.0) same in
     subst SendsFit (sym e) fits.sends
 
+pub asked_fits : (old : StateValue) (out : ClientOut) (found : Option (List Outgoing)) (sends : List Outgoing) → StepFits old.me out → IfSome found (λ one. ◌≡◌ {A = Left} (old, (one, None)) (after old out)) → found ≡ Some sends → SendsFit sends
+asked_fits old out found sends fits same is =
+    let there : ◌≡◌ {A = Left} (old, (sends, None)) (after old out) = subst (λ (one : Option (List Outgoing)). IfSome one (λ some. ◌≡◌ {A = Left} (old, (some, None)) (after old out))) is same in
+    sent_fits old old out sends None fits there
+
 -- ---- what is kept, by the look-up
 pub plan_kept : (me : ClientIdentity) (state : ClientState) (id : TxnId) → StateFits me state → IfSome (plan_of_transaction (transaction_at state id)) PlanFits
 plan_kept me state id fits = by_found (transaction_at state id) (λ transaction is. (at-fits me state fits id transaction is).course)

@@ -11,7 +11,6 @@ ghost use Rattle.eris_rules.specs.Known.{knows_client};
 ghost use Rattle.eris_in_place.specs.MessageRanges.{SendsFit};
 ghost use Rattle.eris_client.specs.ClientRanges.{PlanFits, TxnFits};
 
-use crate::courses::plan_of;
 use crate::fault::RetryFault;
 use crate::state::State;
 use eris_base::{ClientId, Config, NoMemory, Row, TxnId};
@@ -100,10 +99,10 @@ impl Client {
         self.spent = true;
         let found = self.state.retry(number)?;
         self.spent = false;
-        match found {
-            Some(sends) => Ok(sends),
-            None => Err(RetryFault::NoSuchTxn),
-        }
+        let Some(sends) = found else {
+            return Err(RetryFault::NoSuchTxn);
+        };
+        Ok(sends)
     }
 
     /// Asks for the abort of another client's general transaction, with the keys of its plan; asks once more
@@ -212,6 +211,6 @@ impl Client {
         ensures fits { IfSome (plan_of_transaction (transaction_at self.now.state (own_id self.now.me number))) PlanFits }
         ensures id { OnSome (transaction_at self.now.state (own_id self.now.me number)) (f.id.fits (own_id self.now.me number) ≡ true) }
     {
-        plan_of(&self.state.transaction(self.state.own_id(number))?.course)
+        self.state.plan(number)
     }
 }

@@ -2,9 +2,12 @@ ghost use Rattle.std.specs.Prelude.{◌≡◌, ◌+◌, ◌<◌, ◌^◌, IfNone
 ghost use Rattle.std.specs.Option.{option_copied};
 ghost use Rattle.eris_rules.specs.ClientStates.{first_client, next_id, transaction_at, with_transaction};
 ghost use Rattle.eris_rules.specs.Clients.{own_id};
+ghost use Rattle.eris_rules.specs.Happenings.{plan_of_transaction};
 
+use crate::courses::plan_of;
 use eris_base::{ClientId, Config, NoMemory, TxnId};
 use eris_rules::Transaction;
+use eris_txn::Plan;
 use std::alloc::Global;
 use std::collections::BTreeMap;
 use std::marker::Model;
@@ -81,6 +84,13 @@ impl State {
         ensures { option_copied result ≡ transaction_at self.now.state id }
     {
         self.transactions.get(&id)
+    }
+
+    /// The plan of its transaction of this number, if it has it and it is a general one.
+    pub fn plan(&self, number: u32) -> Option<&Plan>
+        ensures { option_copied result ≡ plan_of_transaction (transaction_at self.now.state (own_id self.now.me number)) }
+    {
+        plan_of(&self.transaction(self.own_id(number))?.course)
     }
 
     /// Puts a transaction, in the place of the one that it has of this id.
