@@ -113,7 +113,7 @@ impl Client {
     /// After [`NoMemory`] the client is spent.
     pub fn abort(&mut self, id: TxnId, keys: Row<Key>) -> Result<Row<Outgoing>, NoMemory>
         requires unspent { self.old.spent ≡ false }
-        requires another { (id.client.0 == self.old.me.client.0) ≡ false }
+        requires another { (self.old.me.client.0 == id.client.0) ≡ false }
         requires id { f.id.fits id ≡ true }
         requires keys { f.keys.fits keys ≡ true }
         ensures ok { IfOk result (λ sends. record { state = self.new.state; sends = sends; event = None }
