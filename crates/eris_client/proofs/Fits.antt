@@ -1,9 +1,10 @@
 -- A client whose numbers, ids and bodies are in their ranges stays so by each of its steps, and its Asks are. Used
 -- where the calls of a client say so.
-use Rattle.std.proofs.Common.{◌≡◌, ◌<◌, ◌≤◌, ◌%◌, ◌+◌, ◌-◌, ◌^◌, ℕ, Bool, true, false, cond, ◌&&◌, nat_lt, nat_le, Option, Some, None, List, [], ◌∷◌, ◌++◌, length, map, unwrap_or, IfSome, OnSome, refl, ap, sym, ◌∙◌, subst, arith}
+use Rattle.std.proofs.Common.{◌≡◌, ◌<◌, ◌≤◌, ◌%◌, ◌+◌, ◌-◌, ◌^◌, ℕ, Bool, true, false, cond, ◌&&◌, nat_lt, nat_le, Option, Some, None, List, [], ◌∷◌, ◌++◌, length, map, unwrap_or, IfSome, OnSome, Bor, refl, ap, sym, ◌∙◌, subst, arith}
 use Rattle.std.specs.BTreeMap.{is_at, insert_entry}
 use Rattle.std.specs.List.{list_any}
 use Rattle.std.specs.Map.{lookup}
+use Rattle.std.specs.Option.{option_copied}
 use Rattle.std.specs.Ordering.{is_eq, match_ordering}
 use Rattle.std.specs.declared.cmp.Ordering.{Ordering}
 use Rattle.std.specs.declared.cmp.Ordering.TheVariants.{Less, Equal, Greater}
@@ -360,3 +361,13 @@ id_kept me state id fits = by_found (transaction_at state id) (λ transaction is
     by_found : (found : Option Transaction) → ((transaction : Transaction) → found ≡ Some transaction → f.id.fits id ≡ true) → OnSome found (f.id.fits id ≡ true)
     by_found None k = tt
     by_found (Some transaction) k = k transaction refl
+
+-- what is lent is what was found
+pub lent_fits : (lent : Option (Bor PlanValue)) (found : Option PlanValue) → option_copied lent ≡ found → IfSome found PlanFits → IfSome lent (λ plan. PlanFits plan.now)
+lent_fits None found is k = tt
+lent_fits (Some plan) found is k = subst (λ (one : Option PlanValue). IfSome one PlanFits) (sym is) k
+
+pub lent_id : (lent : Option (Bor PlanValue)) (found : Option Transaction) (id : TxnId) → option_copied lent ≡ plan_of_transaction found → OnSome found (f.id.fits id ≡ true) → OnSome lent (f.id.fits id ≡ true)
+lent_id None found id is k = tt
+lent_id (Some plan) None id is k = absurd (cc)
+lent_id (Some plan) (Some transaction) id is k = k

@@ -208,8 +208,8 @@ impl Client {
     pub fn plan(&self, number: u32) -> Option<&Plan>
         requires { self.now.spent ≡ false }
         ensures exact { option_copied result ≡ plan_of_transaction (transaction_at self.now.state (own_id self.now.me number)) }
-        ensures fits { IfSome (plan_of_transaction (transaction_at self.now.state (own_id self.now.me number))) PlanFits }
-        ensures id { OnSome (transaction_at self.now.state (own_id self.now.me number)) (f.id.fits (own_id self.now.me number) ≡ true) }
+        ensures fits { IfSome result (λ plan. PlanFits plan.now) }
+        ensures id { OnSome result (f.id.fits (own_id self.now.me number) ≡ true) }
     {
         self.state.plan(number)
     }
