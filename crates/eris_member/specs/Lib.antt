@@ -1,0 +1,2 @@
+pub mod MemberInputs
+pub mod MemberValues

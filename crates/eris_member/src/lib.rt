@@ -1,0 +1,14 @@
+//! A replica within one epoch: its state, and the rows of the rules by which it steps.
+#![tactic(auto)]
+
+mod input;
+mod logs;
+mod member;
+mod packets;
+mod probing;
+mod sends;
+mod showing;
+mod speaking;
+
+pub use input::MemberInput;
+pub use member::EpochMember;
