@@ -1,4 +1,6 @@
 pub mod Following
+pub mod Items
 pub mod Kept
 pub mod Others
+pub mod PacketRanges
 pub mod StoreRanges

@@ -3,7 +3,7 @@
 use Rattle.std.proofs.Common.{◌≡◌, ◌<◌, ◌≤◌, ◌+◌, ◌%◌, ◌^◌, ◌==◌, ℕ, zero, suc, Bool, true, false, ◌&&◌, ◌||◌, not, cond, nat_lt, nat_le, Option, Some, None, is_some, unwrap_or, List, [], ◌∷◌, ◌++◌, length, map, filter, refl, ap, sym, ◌∙◌, subst, arith}
 use Rattle.std.specs.Prelude.{⊤}
 use Rattle.std.specs.List.{list_any}
-use Rattle.std.proofs.lemmas.Bool.{cond_both, lt-ltb}
+use Rattle.std.proofs.lemmas.Bool.{and_from, cond_both, le-leb, lt-ltb}
 use Rattle.std.proofs.lemmas.List.{length-map}
 use Rattle.eris_base.specs.declared.ids.Phase.{Phase}
 use Rattle.eris_base.specs.declared.ids.Place.{Place}
@@ -32,22 +32,22 @@ use Rattle.eris_locks.specs.Locks.{locks_of}
 use Rattle.eris_locks.specs.LockTable.{Stepped, aborted_late, all_also, also, answer_of, arrive, arrive_new, conclude, done, end_holding, end_waiting, execute, nothing_done, only, release, run_dones, run_state, step, step_by, values_after}
 use Rattle.eris_locks.specs.Shards.{cut, cut_body, is_on, names_shard, on_shard}
 use Rattle.eris_locks.specs.States.{StoreState, blocked, decide, empty, holds, is_decided, is_prelim, is_prelim_of, no_longer_waiting, note, phase_of, same_phase, waits}
-use Rattle.eris_msg.specs.Codecs.{Codec, items_fit, ◌⊗◌}
+use Rattle.eris_msg.specs.Codecs.{◌⊗◌}
 use Rattle.eris_msg.specs.Fields as f
-use Rattle.eris_msg.proofs.Laws.{both, left_of, right_of}
 use Rattle.eris_msg.proofs.FieldLaws.{tag_is}
+use Rattle.eris_member.proofs.Items.{right_of, items_from}
 
 -- ---- values
-abbrev ValueFits : Option ℕ → Type 0
+abbrev pub ValueFits : Option ℕ → Type 0
 ValueFits value = f.found_fits value ≡ true
 
-record ValuesFit (values : Values) : Type 0 where
+pub record ValuesFit (values : Values) : Type 0 where
   pub at : (key : Key) → ValueFits (values key)
 
-abbrev OpFits : Op → Type 0
+abbrev pub OpFits : Op → Type 0
 OpFits op = f.op_fits op ≡ true
 
-abbrev WriteFits : Write → Type 0
+abbrev pub WriteFits : Write → Type 0
 WriteFits write = f.value.fits write.value ≡ true
 
 sum_fits : (before : Option ℕ) (more : ℕ) → f.value.fits (sum_of before more) ≡ true
@@ -100,7 +100,7 @@ written_fits [] values h k = k
 written_fits (write ∷ writes) values h k = written_fits writes _ h.1 (with_value_fits write.key (Some write.value) values h.0 k)
 
 -- ---- answers
-abbrev AnswerFits : Answer → Type 0
+abbrev pub AnswerFits : Answer → Type 0
 AnswerFits answer = f.answer_fits answer ≡ true
 
 abbrev OpAnswerFits : OpAnswer → Type 0
@@ -119,19 +119,15 @@ values_fit : (locks : List Lock) (values : Values) → ValuesFit values → Each
 values_fit [] values k = tt
 values_fit (lock ∷ locks) values k = (k.at lock.key, values_fit locks values k)
 
-items_from : {X : Type 0} (codec : Codec X) (before xs : List X) → Each (λ x. codec.fits x ≡ true) xs → items_fit (λ _. codec) before xs ≡ true
-items_from codec before [] h = refl
-items_from codec before (x ∷ xs) h = both _ _ h.0 (items_from codec (before ++ x ∷ []) xs h.1)
-
-record Counts {X : Type 0} (xs : List X) : Type 0 where
+pub record Counts {X : Type 0} (xs : List X) : Type 0 where
   pub some : 1 ≤ length xs
   pub few : length xs ≤ 32
 
 count_of : (n : ℕ) → 1 ≤ n → n ≤ 32 → (f.from_to 1 32).fits n ≡ true
-count_of n some few = tag_is 1 32 n (lt-ltb n 256 (omega arith)) (grind arith)
+count_of n some few = tag_is 1 32 n (lt-ltb n 256 (omega arith)) (and_from _ _ (le-leb 1 n some) (le-leb n 32 few))
 
 -- what a packet has on a shard: something, and in range
-abbrev CutFits : Body → Type 0
+abbrev pub CutFits : Body → Type 0
 CutFits (Independent ops) = Counts ops × Each OpFits ops
 CutFits (Prelim locks) = Counts locks
 CutFits (Commit keys writes) = Each WriteFits writes
@@ -139,11 +135,11 @@ CutFits (Abort keys) = ⊤
 
 ops_fit : (list : List OpAnswer) → 1 ≤ length list → length list ≤ 32 → Each OpAnswerFits list → f.op_answers.fits list ≡ true
 unfolding f.op_answers f.op_answer
-ops_fit list some few h = both _ _ (count_of (length list) some few) (items_from f.op_answer [] list h)
+ops_fit list some few h = and_from _ _ (count_of (length list) some few) (items_from f.op_answer [] list h)
 
 found_fit : (list : List (Option ℕ)) → 1 ≤ length list → length list ≤ 32 → Each ValueFits list → f.values.fits list ≡ true
 unfolding f.values f.found
-found_fit list some few h = both _ _ (count_of (length list) some few) (items_from f.found [] list h)
+found_fit list some few h = and_from _ _ (count_of (length list) some few) (items_from f.found [] list h)
 
 answer_of_fits : (body : Body) (values : Values) → CutFits body → ValuesFit values → AnswerFits (answer_of body values)
 unfolding f.answer_fits
@@ -163,25 +159,25 @@ values_after_fit (Commit keys writes) values h k = k
 values_after_fit (Abort keys) values h k = k
 
 -- ---- the state of a store
-record PacketFits (packet : ShardPacket) : Type 0 where
+pub record CutPacketFits (packet : ShardPacket) : Type 0 where
   pub id : f.id.fits packet.id ≡ true
   pub body : CutFits packet.body
 
-abbrev KnownFits : Option Answer → Type 0
+abbrev pub KnownFits : Option Answer → Type 0
 KnownFits None = ⊤
 KnownFits (Some answer) = AnswerFits answer
 
-record StoreFits (state : StoreState) : Type 0 where
+pub record StoreFits (state : StoreState) : Type 0 where
   pub values : ValuesFit state.values
   pub recorded : (id : TxnId) (phase : Phase) → KnownFits (state.recorded id phase)
   pub decided : (id : TxnId) → KnownFits (state.decided id)
-  pub waiting : Each PacketFits state.waiting
+  pub waiting : Each CutPacketFits state.waiting
 
 pub record DoneFits (done : Done) : Type 0 where
   pub id : f.id.fits done.id ≡ true
   pub answer : f.answer_fits done.answer ≡ true
 
-record SteppedFits (stepped : Stepped) : Type 0 where
+pub record SteppedFits (stepped : Stepped) : Type 0 where
   pub state : StoreFits stepped.state
   pub dones : Each DoneFits stepped.dones
 
@@ -206,7 +202,7 @@ aborted_fits : AnswerFits Aborted
 unfolding f.answer_fits
 aborted_fits = refl
 
-execute_fits : (state : StoreState) (packet : ShardPacket) → PacketFits packet → StoreFits state → StoreFits (execute state packet)
+execute_fits : (state : StoreState) (packet : ShardPacket) → CutPacketFits packet → StoreFits state → StoreFits (execute state packet)
 execute_fits state packet h k = record {
   values = values_after_fit packet.body state.values h.body k.values;
   recorded = note_fits state.recorded packet.id (phase_of packet.body) (answer_of packet.body state.values) k.recorded (answer_of_fits packet.body state.values h.body k.values);
@@ -214,11 +210,11 @@ execute_fits state packet h k = record {
   waiting = k.waiting;
 }
 
-release_fits : (at : Place) (state : StoreState) (before packets : List ShardPacket) → StoreFits state → Each PacketFits before → Each PacketFits packets
+release_fits : (at : Place) (state : StoreState) (before packets : List ShardPacket) → StoreFits state → Each CutPacketFits before → Each CutPacketFits packets
     → SteppedFits (release at state before packets)
 release_fits at state before [] k b h = record { state = record { values = k.values; recorded = k.recorded; decided = k.decided; waiting = b }; dones = tt }
 release_fits at state before (packet ∷ packets) k b h = by_test (blocked state.holding before (locks_of packet.body))
-    (release_fits at state (before ++ packet ∷ []) packets k (Each-append PacketFits before (packet ∷ []) b (h.0, tt)) h.1)
+    (release_fits at state (before ++ packet ∷ []) packets k (Each-append CutPacketFits before (packet ∷ []) b (h.0, tt)) h.1)
     (release_fits at (execute state packet) before packets (execute_fits state packet h.0 k) b h.1)
   where
     by_test : (t : Bool) → SteppedFits (release at state (before ++ packet ∷ []) packets)
@@ -231,7 +227,7 @@ release_fits at state before (packet ∷ packets) k b h = by_test (blocked state
     by_test false stays goes =
         record { state = goes.state; dones = (record { id = h.0.id; answer = answer_of_fits packet.body state.values h.0.body k.values }, goes.dones) }
 
-arrive_new_fits : (state : StoreState) (packet : ShardPacket) → PacketFits packet → StoreFits state → SteppedFits (arrive_new state packet)
+arrive_new_fits : (state : StoreState) (packet : ShardPacket) → CutPacketFits packet → StoreFits state → SteppedFits (arrive_new state packet)
 arrive_new_fits state packet h k =
     by_test (is_prelim packet.body && is_decided (state.decided packet.id)) (blocked state.holding state.waiting (locks_of packet.body))
   where
@@ -253,7 +249,7 @@ arrive_new_fits state packet h k =
       dones = (record { id = h.id; answer = aborted_fits }, tt);
     }
     by_test false true = record {
-      state = record { values = k.values; recorded = k.recorded; decided = k.decided; waiting = Each-append PacketFits state.waiting (packet ∷ []) k.waiting (h, tt) };
+      state = record { values = k.values; recorded = k.recorded; decided = k.decided; waiting = Each-append CutPacketFits state.waiting (packet ∷ []) k.waiting (h, tt) };
       dones = tt;
     }
     by_test false false = record {
@@ -261,7 +257,7 @@ arrive_new_fits state packet h k =
       dones = (record { id = h.id; answer = answer_of_fits packet.body state.values h.body k.values }, tt);
     }
 
-arrive_fits : (state : StoreState) (packet : ShardPacket) → PacketFits packet → StoreFits state → SteppedFits (arrive state packet)
+arrive_fits : (state : StoreState) (packet : ShardPacket) → CutPacketFits packet → StoreFits state → SteppedFits (arrive state packet)
 arrive_fits state packet h k = by_record (state.recorded packet.id (phase_of packet.body)) (k.recorded packet.id (phase_of packet.body)) (waits packet.id state.waiting)
   where
     by_record : (found : Option Answer) → KnownFits found → (u : Bool) → SteppedFits (elim found [
@@ -272,7 +268,7 @@ arrive_fits state packet h k = by_record (state.recorded packet.id (phase_of pac
     by_record None r true = record { state = k; dones = tt }
     by_record None r false = arrive_new_fits state packet h k
 
-aborted_late_fits : (at : Place) (id : TxnId) (packets : List ShardPacket) → Each PacketFits packets → Each DoneFits (aborted_late at id packets)
+aborted_late_fits : (at : Place) (id : TxnId) (packets : List ShardPacket) → Each CutPacketFits packets → Each DoneFits (aborted_late at id packets)
 aborted_late_fits at id [] h = tt
 aborted_late_fits at id (packet ∷ packets) h = by_test (is_prelim_of id packet) (aborted_late_fits at id packets h.1)
   where
@@ -309,7 +305,7 @@ conclude_fits state packet outcome writes i a w k =
           recorded = note_fits state.recorded packet.id Phase.Prelim Aborted k.recorded aborted_fits;
           decided = decide_fits state.decided packet.id Aborted k.decided aborted_fits;
           waiting = tt;
-        }) tt (Each-filter PacketFits (λ other. not (is_prelim_of packet.id other)) state.waiting k.waiting) in
+        }) tt (Each-filter CutPacketFits (λ other. not (is_prelim_of packet.id other)) state.waiting k.waiting) in
         record {
           state = released.state;
           dones = (
@@ -322,20 +318,20 @@ conclude_fits state packet outcome writes i a w k =
       dones = (record { id = i; answer = aborted_fits }, tt);
     }
 
-step_by_fits : (body : Body) (state : StoreState) (packet : ShardPacket) → packet.body ≡ body → PacketFits packet → StoreFits state → SteppedFits (step_by body state packet)
+step_by_fits : (body : Body) (state : StoreState) (packet : ShardPacket) → packet.body ≡ body → CutPacketFits packet → StoreFits state → SteppedFits (step_by body state packet)
 step_by_fits (Independent ops) state packet e h k = arrive_fits state packet h k
 step_by_fits (Prelim locks) state packet e h k = arrive_fits state packet h k
 step_by_fits (Commit keys writes) state packet e h k = conclude_fits state packet Committed writes h.id committed_fits (subst CutFits e h.body) k
 step_by_fits (Abort keys) state packet e h k = conclude_fits state packet Aborted [] h.id aborted_fits tt k
 
-pub step_fits : (state : StoreState) (packet : ShardPacket) → PacketFits packet → StoreFits state → SteppedFits (step state packet)
+pub step_fits : (state : StoreState) (packet : ShardPacket) → CutPacketFits packet → StoreFits state → SteppedFits (step state packet)
 step_fits state packet h k = step_by_fits packet.body state packet refl h k
 
-pub run_state_fits : (packets : List ShardPacket) (state : StoreState) → Each PacketFits packets → StoreFits state → StoreFits (run_state state packets)
+pub run_state_fits : (packets : List ShardPacket) (state : StoreState) → Each CutPacketFits packets → StoreFits state → StoreFits (run_state state packets)
 run_state_fits [] state h k = k
 run_state_fits (packet ∷ packets) state h k = run_state_fits packets (step state packet).state h.1 (step_fits state packet h.0 k).state
 
-pub run_dones_fit : (packets : List ShardPacket) (state : StoreState) → Each PacketFits packets → StoreFits state → Each DoneFits (run_dones state packets)
+pub run_dones_fit : (packets : List ShardPacket) (state : StoreState) → Each CutPacketFits packets → StoreFits state → Each DoneFits (run_dones state packets)
 run_dones_fit [] state h k = tt
 run_dones_fit (packet ∷ packets) state h k =
     let stepped = step_fits state packet h.0 k in
