@@ -154,19 +154,21 @@ on_shard_fits shard (packet ∷ packets) h = by_test (names_shard shard packet) 
     by_test true e rest = (cut_fits shard packet h.0 e, rest)
     by_test false e rest = rest
 
+-- the number of the first place or of a later one
+abbrev number_by : ShardId × ℕ → List (ShardId × ℕ) → ShardId → Bool → Option ℕ
+number_by place places shard first = option_map (λ one. one.1) (cond first (Some place) (find (λ one. one.0.0 == shard.0) places))
+
 -- the number that a stamp gives a shard is in range
 number_range : (places : List (ShardId × ℕ)) (shard : ShardId) (number : ℕ) → Each PairInRange places → number_in places shard ≡ Some number → f.number.fits number ≡ true
 number_range [] shard number h named = absurd cc
 number_range (place ∷ places) shard number h named = by_test (place.0.0 == shard.0) refl (number_range places shard number h.1)
   where
-    abbrev by : Bool → Option ℕ
-    by b = option_map (λ (one : ShardId × ℕ). one.1) (cond b (Some place) (find (λ (one : ShardId × ℕ). one.0.0 == shard.0) places))
     by_test : (t : Bool) → (place.0.0 == shard.0) ≡ t → (number_in places shard ≡ Some number → f.number.fits number ≡ true) → f.number.fits number ≡ true
     by_test true e rest =
-        let given : Some place.1 ≡ Some number = ap by (sym e) ∙ named in
+        let given : Some place.1 ≡ Some number = ap (number_by place places shard) (sym e) ∙ named in
         let is : place.1 ≡ number = cc in
         ap (λ (n : ℕ). f.number.fits n) (sym is) ∙ h.0.1
-    by_test false e rest = rest (ap by (sym e) ∙ named)
+    by_test false e rest = rest (ap (number_by place places shard) (sym e) ∙ named)
 
 stamp_pair : (before : List (ShardId × ℕ)) (pair : ShardId × ℕ) → (f.stamp_place before).fits pair ≡ true → PairInRange pair
 unfolding f.stamp_place
