@@ -3,4 +3,5 @@ pub mod Items
 pub mod Kept
 pub mod Others
 pub mod PacketRanges
+pub mod PartRanges
 pub mod StoreRanges

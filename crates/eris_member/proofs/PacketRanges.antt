@@ -129,14 +129,16 @@ same_shard some other = some.0 == other.0
 abbrev shard_at : ℕ → ShardId
 shard_at n = record { 0 = n }
 
-pub takes_part : (packet : Packet) (shard : ShardId) → names_participants packet ≡ true → names_shard shard packet ≡ true → any_on (keys_of packet.body) shard ≡ true
+pub named_exactly : (packet : Packet) → names_participants packet ≡ true → map (λ (place : ShardId × ℕ). place.0) packet.stamp.places ≡ participants_of packet.body
 unfolding names_exactly
-takes_part packet shard exactly named =
-    let shards : map (λ (place : ShardId × ℕ). place.0) packet.stamp.places ≡ participants_of packet.body =
+named_exactly packet exactly =
     same_list-true same_shard (λ x y h. ap shard_at (eqb-true x.0 y.0 h)) (λ x. eq-eqb x.0 x.0 refl)
-    (map (λ (place : ShardId × ℕ). place.0) packet.stamp.places) (participants_of packet.body) exactly in
+    (map (λ (place : ShardId × ℕ). place.0) packet.stamp.places) (participants_of packet.body) exactly
+
+pub takes_part : (packet : Packet) (shard : ShardId) → names_participants packet ≡ true → names_shard shard packet ≡ true → any_on (keys_of packet.body) shard ≡ true
+takes_part packet shard exactly named =
     sym (has_shard-participants packet.body shard)
-    ∙ ap (λ (list : List ShardId). has_shard list shard) (sym shards)
+    ∙ ap (λ (list : List ShardId). has_shard list shard) (sym (named_exactly packet exactly))
     ∙ named_shard packet.stamp.places shard named
 
 pub cut_fits : (shard : ShardId) (packet : Packet) → KeepsPacket packet → names_shard shard packet ≡ true → CutPacketFits (cut shard packet)
