@@ -29,13 +29,45 @@ asks_once_top me out = by_test (has_gap out.state.part && not (is_number out.sta
     by_test true = refl
     by_test false = ap (λ (sends : List EpochSend). record { state = out.state; sends = sends }) (sym (append-nil out.sends))
 
+-- asking on top of speaking
+both_top : (me : Member) (out : EpochOut) → asks_once me (speaks_on me out) ≡ on_top out.sends (asks_once me (speaks_on me (quiet out.state)))
+unfolding speaks_on
+both_top me out =
+    let spoken = speaks_on me (quiet out.state) in
+    let asked = asks_once me (quiet spoken.state) in
+    asks_once_top me (speaks_on me out)
+    ∙ ap (λ (sends : List EpochSend). record { state = asked.state; sends = sends }) (append_assoc out.sends spoken.sends asked.sends)
+    ∙ ap (λ (made : EpochOut). on_top out.sends made) (sym (asks_once_top me spoken))
+
 pub tail_top : (me : Member) (out : EpochOut) → tail me out ≡ on_top out.sends (tail me (quiet out.state))
 unfolding tail
 tail_top me out = by_test (is_normal out.state.status)
   where
-    spoken : EpochOut
-    spoken = speaks_on me (quiet out.state)
-
     by_test : (b : Bool) → cond b (asks_once me (speaks_on me out)) out ≡ on_top out.sends (cond b (asks_once me (speaks_on me (quiet out.state))) (quiet out.state))
-    by_test true = ?
+    by_test true = both_top me out
     by_test false = ap (λ (sends : List EpochSend). record { state = out.state; sends = sends }) (sym (append-nil out.sends))
+
+-- THE STEP: what follows the row is sent behind what the row sends
+pub follows_row : (value : MemberValue) (out : EpochOut)
+    → behind (outer_sends value.epoch out.sends) (record value { state = out.state }) (tail value.me (quiet out.state)) ≡ after value (tail value.me out)
+follows_row value out =
+    let last = tail value.me (quiet out.state) in
+    ap (λ (sends : List Outgoing). (record value { state = last.state }, sends)) (sym (outer_sends-append value.epoch out.sends last.sends))
+    ∙ ap (λ (made : EpochOut). after value made) (sym (tail_top value.me out))
+
+-- what is asked is sent behind what was spoken
+pub asks_behind : (before : List Outgoing) (value : MemberValue)
+    → (let spoken = speaks_on value.me (quiet value.state) in
+    behind (before ++ outer_sends value.epoch spoken.sends) (record value { state = spoken.state }) (asks_once value.me (quiet spoken.state)))
+    ≡ behind before value (asks_once value.me (speaks_on value.me (quiet value.state)))
+asks_behind before value =
+    let spoken = speaks_on value.me (quiet value.state) in
+    let asked = asks_once value.me (quiet spoken.state) in
+    ap (λ (sends : List Outgoing). (record value { state = asked.state }, sends))
+    (append_assoc before (outer_sends value.epoch spoken.sends) (outer_sends value.epoch asked.sends)
+    ∙ ap (λ (sends : List Outgoing). before ++ sends) (sym (outer_sends-append value.epoch spoken.sends asked.sends)))
+    ∙ ap (λ (made : EpochOut). behind before value made) (sym (asks_once_top value.me spoken))
+
+pub ruleset following = (follows_row, asks_behind)
+
+pub ruleset sent = (outer_sends-append)

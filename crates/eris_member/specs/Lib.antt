@@ -1,2 +1,3 @@
 pub mod MemberInputs
+pub mod MemberRanges
 pub mod MemberValues

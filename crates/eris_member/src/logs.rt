@@ -1,6 +1,5 @@
 //! The log of a replica up to a number, and what the shard's store answers over it.
 ghost use Rattle.std.specs.Prelude.{◌≡◌, ◌++◌, IfOk, OnOk};
-ghost use Rattle.std.specs.Option.{option_copied};
 ghost use Rattle.eris_log.specs.Entries.{entry_of};
 ghost use Rattle.eris_rules.specs.ReplicaAnswers.{is_open, open_at, open_upto, log_upto, store_answers, answer_after, prompt_answer};
 
@@ -25,6 +24,7 @@ impl EpochMember {
 }
 
 /// Adds the packets at the places from 1 to the number whose entries are open.
+#[tactic(auto, unfolding(eris_rules::specs::ReplicaAnswers::open_upto))]
 fn add_open(alloc: Global, log: &mut Row<Packet>, part: &Part, number: u32) -> Result<(), NoMemory>
     ensures { OnOk result (log.new ≡ log.old ++ open_upto part.now number) }
 {

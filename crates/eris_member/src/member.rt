@@ -3,9 +3,9 @@ ghost use Rattle.eris_base.specs.Places.{number_in};
 ghost use Rattle.eris_log.specs.Parts.{hold, mark_temp, mark_found, mark_dropped, merge};
 ghost use Rattle.eris_rules.specs.ReplicaStates.{fresh, is_normal, is_learner, learner_node};
 ghost use Rattle.eris_rules.specs.Settling.{follows, leads};
-ghost use Rattle.eris_rules.specs.Views.{entered, became_normal};
+ghost use Rattle.eris_rules.specs.Views.{entered, became_normal, view_tally};
 ghost use Rattle.eris_view.specs.AckTallies.{with_ack};
-ghost use Rattle.eris_view.specs.ViewTallies.{with_part, union_of};
+ghost use Rattle.eris_view.specs.ViewTallies.{with_part, union_of, is_ready};
 ghost use Rattle.eris_member.specs.MemberValues.{IsOfOwn};
 
 use eris_base::{

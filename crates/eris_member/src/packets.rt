@@ -1,9 +1,9 @@
 //! Stamped packets, and what the coordinator asks and tells of places.
-ghost use Rattle.std.specs.Prelude.{◌≡◌, ◌<◌, IfOk, Option, is_some, Some};
-ghost use Rattle.std.specs.Option.{option_copied};
+ghost use Rattle.std.specs.Prelude.{◌≡◌, IfOk, OnOk};
 ghost use Rattle.eris_base.specs.Places.{number_in};
-ghost use Rattle.eris_drop.specs.declared.request.RequestAnswer.{RequestAnswer};
+ghost use Rattle.eris_drop.specs.Requests.{answer_request};
 ghost use Rattle.eris_log.specs.Held.{packet_at};
+ghost use Rattle.eris_log.specs.Parts.{hold};
 ghost use Rattle.eris_rules.specs.EpochReplicas.{has_spoken_for, speaks_again, txn_at, txn_row, gives_packet, drops_for_a_time, answers_request, request_row, found_row, dropped_row};
 ghost use Rattle.eris_member.specs.MemberValues.{after};
 

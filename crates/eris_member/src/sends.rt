@@ -1,5 +1,5 @@
 //! What is sent, and to whom.
-ghost use Rattle.std.specs.Prelude.{◌≡◌, ◌≤◌, ◌++◌, ◌∷◌, [], IfOk, OnOk};
+ghost use Rattle.std.specs.Prelude.{◌≡◌, ◌++◌, ◌∷◌, [], IfOk, OnOk};
 ghost use Rattle.eris_rules.specs.Outer.{tell_each};
 ghost use Rattle.eris_rules.specs.ReplicaStates.{others};
 ghost use Rattle.eris_member.specs.MemberValues.{other_node};
@@ -57,7 +57,7 @@ impl EpochMember {
     }
 
     /// The other replicas of the shard, ascending.
-    #[tactic(auto, unfolding(eris_rules::specs::Addressees::other_replicas))]
+    #[tactic(auto, using(crate::proofs::Others::other_replicas), unfolding(eris_rules::specs::Addressees::other_replicas))]
     fn others(&self) -> Result<Row<Node>, NoMemory>
         ensures { IfOk result (λ nodes. nodes ≡ others self.now.me) }
     {

@@ -20,7 +20,7 @@ use eris_txn::{Answer, Body, Packet};
 impl EpochMember {
     /// What follows each input: a replica that takes part in its view speaks for what it has now, and asks
     /// for what is missing.
-    #[tactic(auto, unfolding(eris_rules::specs::Speaking::tail))]
+    #[tactic(auto, using(crate::proofs::Following::following), unfolding(eris_rules::specs::Speaking::tail))]
     pub(crate) fn follow(&mut self, sends: &mut Row<Outgoing>) -> Result<(), NoMemory>
         ensures { OnOk result ((self.new, sends.new) ≡ behind sends.old self.old (tail self.old.me (quiet self.old.state))) }
     {
@@ -43,6 +43,7 @@ impl EpochMember {
     }
 
     /// Speaks for so many numbers after the one that it has spoken for.
+    #[tactic(auto, using(crate::proofs::Following::sent), unfolding(eris_rules::specs::Speaking::speaks_after))]
     fn speak_after(&self, sends: &mut Row<Outgoing>, count: u32) -> Result<(), NoMemory>
         requires { self.now.state.spoken + count < 2 ^ 32 }
         ensures { OnOk result (sends.new ≡ sends.old ++ outer_sends self.now.epoch
@@ -167,6 +168,7 @@ impl EpochMember {
         }
     }
 
+    #[tactic(auto, unfolding(eris_rules::specs::Speaking::asks_gap))]
     fn ask_gap(&mut self, sends: &mut Row<Outgoing>, number: u32) -> Result<(), NoMemory>
         requires { number ≡ length_of self.old.state.part + 1 }
         ensures { OnOk result ((self.new, sends.new) ≡ behind sends.old self.old (asks_gap self.old.me (quiet self.old.state))) }
@@ -208,6 +210,7 @@ pub(crate) fn gap_of(part: &Part) -> Option<u32>
 }
 
 /// Whether a packet is held at a number above this one.
+#[tactic(auto, unfolding(eris_rules::specs::Speaking::holds_from))]
 fn holds_above(held: &[(u32, Packet)], number: u32) -> bool
     ensures exact { result ≡ holds_from held.now (number + 1) }
     ensures small { IsTrue result → number + 1 < 2 ^ 32 }
