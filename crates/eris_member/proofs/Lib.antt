@@ -5,3 +5,4 @@ pub mod Others
 pub mod PacketRanges
 pub mod PartRanges
 pub mod StoreRanges
+pub mod Told

@@ -1,3 +1,4 @@
+pub mod LateSends
 pub mod MemberInputs
 pub mod MemberRanges
 pub mod MemberValues
