@@ -4,4 +4,6 @@ pub mod Kept
 pub mod Others
 pub mod PacketRanges
 pub mod PartRanges
+pub mod RowRanges
+pub mod SpeakingRanges
 pub mod StoreRanges
