@@ -100,6 +100,27 @@ impl EpochMember {
         }
     }
 
+    /// The config of its system. It takes no memory.
+    pub fn config(&self) -> Config
+        ensures { result ≡ self.now.me.config }
+    {
+        self.config
+    }
+
+    /// Its shard. It takes no memory.
+    pub fn shard(&self) -> ShardId
+        ensures { result ≡ self.now.me.shard }
+    {
+        self.shard
+    }
+
+    /// Its number among the replicas of the shard. It takes no memory.
+    pub fn replica(&self) -> ReplicaId
+        ensures { result ≡ self.now.me.replica }
+    {
+        self.replica
+    }
+
     /// The epoch. It takes no memory.
     pub fn epoch(&self) -> Epoch
         ensures { result ≡ self.now.epoch }
@@ -136,11 +157,11 @@ impl EpochMember {
         self.settled
     }
 
-    /// The packets of the epochs before. It takes no memory.
-    pub fn prior(&self) -> &[Packet]
+    /// The packets of the epochs before, on the shard, in order. It takes no memory.
+    pub fn prior(&self) -> &Row<Packet>
         ensures { result.now ≡ self.now.me.prior }
     {
-        self.prior.as_slice()
+        &self.prior
     }
 
     pub(crate) fn is_normal(&self) -> bool

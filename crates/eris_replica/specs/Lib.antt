@@ -1,0 +1,2 @@
+pub mod ReplicaRanges
+pub mod ReplicaValues
