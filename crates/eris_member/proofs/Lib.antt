@@ -1,9 +1,3 @@
 pub mod Following
-pub mod Items
 pub mod Kept
 pub mod Others
-pub mod PacketRanges
-pub mod PartRanges
-pub mod RowRanges
-pub mod SpeakingRanges
-pub mod StoreRanges

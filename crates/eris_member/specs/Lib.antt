@@ -1,3 +1,2 @@
 pub mod MemberInputs
-pub mod MemberRanges
 pub mod MemberValues

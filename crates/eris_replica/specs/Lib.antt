@@ -1,2 +1,1 @@
-pub mod ReplicaRanges
 pub mod ReplicaValues

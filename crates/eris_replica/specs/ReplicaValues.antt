@@ -1,9 +1,11 @@
 -- What contracts see of a replica.
-use Rattle.std.specs.Prelude.{◌<◌, ◌+◌, ◌*◌, Bool, List, ⊤, if◌then◌else◌}
+use Rattle.std.specs.Prelude.{◌≡◌, ◌<◌, ◌+◌, ◌*◌, Bool, true, List, ⊤, if◌then◌else◌}
 use Rattle.eris_base.specs.declared.ids.Epoch.{Epoch}
 use Rattle.eris_base.specs.ConfigLimits.{ConfigValue}
 use Rattle.eris_msg.specs.declared.message.Message.{Message}
 use Rattle.eris_msg.specs.declared.outgoing.Outgoing.{Outgoing}
+use Rattle.eris_msg.specs.Spellings.{message_fits}
+use Rattle.eris_rules.specs.declared.replica_input.ReplicaInput.{ReplicaInput}
 use Rattle.eris_rules.specs.EpochReplicas.{EpochInput}
 use Rattle.eris_rules.specs.ReplicaStates.{Identity, ReplicaState, ReplicaOut}
 use Rattle.eris_rules.specs.Replicas.{still, steps, takes_part_in}
@@ -31,3 +33,10 @@ steps_if me state epoch input = if takes_part_in state epoch then steps me state
 abbrev pub IsSenderKnown : ConfigValue → Message → Type 0
 IsSenderKnown config (Message.Ack replica epoch view length) = replica.0 < 2 * config.f + 1
 IsSenderKnown config message = ⊤
+
+-- a message that comes is in its ranges
+abbrev pub InputFits : ReplicaInput → Type 0
+InputFits (ReplicaInput.Message message) = message_fits message ≡ true
+InputFits ReplicaInput.Probe = ⊤
+InputFits ReplicaInput.Suspect = ⊤
+InputFits ReplicaInput.Sync = ⊤

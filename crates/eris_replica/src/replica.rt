@@ -7,7 +7,7 @@ ghost use Rattle.eris_rules.specs.Good.{settled_log};
 ghost use Rattle.eris_rules.specs.Known.{knows_shard, knows_replica};
 ghost use Rattle.eris_rules.specs.ReplicaStates.{first_state};
 ghost use Rattle.eris_rules.specs.Replicas.{replica_step};
-ghost use Rattle.eris_replica.specs.ReplicaRanges.{InputFits};
+ghost use Rattle.eris_replica.specs.ReplicaValues.{InputFits};
 
 use crate::epochs::Epochs;
 use eris_base::{Config, Epoch, NoMemory, ReplicaId, Row, ShardId, View};
@@ -30,14 +30,14 @@ pub struct Replica {
 
 impl Model for Replica {
     ghost use Rattle.std.specs.Prelude.{◌≡◌, false};
-    ghost use Rattle.eris_replica.specs.ReplicaRanges.{StateFits};
+    ghost use Rattle.eris_range_law.specs.Fitting.{ReplicaFits};
     ghost use Rattle.eris_replica.specs.ReplicaValues.{ReplicaValue};
 
     ghost Value = { ReplicaValue };
 
     ghost view = { λ r. record { me = r.epochs.me; state = r.epochs.state; spent = r.spent } };
 
-    ghost invariant = { λ r. r.spent ≡ false → StateFits r.epochs.me r.epochs.state };
+    ghost invariant = { λ r. r.spent ≡ false → ReplicaFits r.epochs.me r.epochs.state };
 }
 
 impl Replica {

@@ -1,0 +1,8 @@
+pub mod AnswerRanges
+pub mod EpochRanges
+pub mod FieldTests
+pub mod PartRanges
+pub mod RowRanges
+pub mod SendRanges
+pub mod SettlingRanges
+pub mod ViewRanges
