@@ -1,4 +1,5 @@
 ghost use Rattle.std.specs.Prelude.{◌≡◌, ◌<◌, ◌+◌, ◌*◌, IfOk, OnOk, OnErr, IsSome};
+ghost use Rattle.eris_base.specs.ConfigLimits.{IsConfig};
 ghost use Rattle.eris_base.specs.Places.{number_in};
 ghost use Rattle.eris_log.specs.Parts.{hold, mark_temp, mark_found, mark_dropped, merge};
 ghost use Rattle.eris_rules.specs.ReplicaStates.{fresh, is_normal, is_learner, learner_node};
@@ -77,11 +78,12 @@ impl EpochMember {
         epoch: Epoch,
         prior: Row<Packet>,
     ) -> EpochMember
-        ensures { result ≡ record {
+        ensures exact { result ≡ record {
           me = record { config = config; shard = shard; replica = replica; prior = prior };
           epoch = epoch;
           state = fresh epoch shard;
         } }
+        ensures config { IsConfig config }
     {
         EpochMember {
             alloc,

@@ -1,6 +1,7 @@
 //! A replica's epochs: the one that it is in, and the highest one that it promised to wait for.
 ghost use Rattle.std.specs.Prelude.{◌≡◌, IfOk, IsTrue};
-ghost use Rattle.eris_rules.specs.ReplicaStates.{first_state, is_stopped};
+ghost use Rattle.eris_base.specs.ConfigLimits.{IsConfig};
+ghost use Rattle.eris_rules.specs.ReplicaStates.{begun, first_state, is_stopped};
 ghost use Rattle.eris_rules.specs.Replicas.{takes_part_in, asks_start, later_txn, may_promise, promises, epoch_ask_row, may_begin, start_epoch_row};
 ghost use Rattle.eris_replica.specs.ReplicaValues.{after};
 
@@ -36,7 +37,8 @@ impl Epochs {
     /// A replica in epoch 0. It takes no memory.
     #[tactic(auto, unfolding(eris_rules::specs::ReplicaStates::first_state, eris_rules::specs::ReplicaStates::begun))]
     pub fn new(alloc: Global, config: Config, shard: ShardId, replica: ReplicaId) -> Epochs
-        ensures { result ≡ record { me = record { config = config; shard = shard; replica = replica }; state = first_state shard } }
+        ensures exact { result ≡ record { me = record { config = config; shard = shard; replica = replica }; state = first_state shard } }
+        ensures config { IsConfig config }
     {
         Epochs {
             alloc,
@@ -103,8 +105,7 @@ impl Epochs {
     fn may_promise(&self, epoch: Epoch) -> bool
         ensures { result ≡ may_promise self.now.state epoch }
     {
-        self.promised.0 < epoch.0
-            || (epoch.0 == self.promised.0 && self.member.epoch().0 < epoch.0)
+        self.promised.0 < epoch.0 || (epoch.0 == self.promised.0 && self.member.epoch().0 < epoch.0)
     }
 
     /// It stops, and gives the coordinator what it knows.

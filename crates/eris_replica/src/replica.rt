@@ -43,7 +43,6 @@ impl Model for Replica {
 impl Replica {
     /// The replica in epoch 0, view 0, which knows nothing yet. It needs a shard and a replica of the config,
     /// and takes no memory.
-    #[tactic(auto, using(crate::proofs::Keeping::first))]
     pub fn new(alloc: Global, config: Config, shard: ShardId, replica: ReplicaId) -> Replica
         requires shard { knows_shard config shard ≡ true }
         requires replica { knows_replica config replica ≡ true }
@@ -64,7 +63,6 @@ impl Replica {
     /// # Errors
     ///
     /// After [`NoMemory`] the replica is spent.
-    #[tactic(auto, using(crate::proofs::Keeping::keeping))]
     pub fn step(&mut self, input: ReplicaInput) -> Result<Row<Outgoing>, NoMemory>
         requires unspent { self.old.spent ≡ false }
         requires ranges { InputFits input }

@@ -17,19 +17,19 @@ impl Epochs {
         ensures { IfOk result (λ log. log ≡ settled_log self.now.state) }
     {
         let mut log = self.member.prior().copy(self.alloc)?;
-        add_kept(self.alloc, &mut log, self.member.part(), self.member.settled())?;
+        add_kept(
+            self.alloc,
+            &mut log,
+            self.member.part(),
+            self.member.settled(),
+        )?;
         Ok(log)
     }
 }
 
 /// Adds the packets at the places from 1 to the number whose entries aren't dropped.
 #[tactic(auto, unfolding(eris_rules::specs::Good::kept_upto))]
-fn add_kept(
-    alloc: Global,
-    log: &mut Row<Packet>,
-    part: &Part,
-    number: u32,
-) -> Result<(), NoMemory>
+fn add_kept(alloc: Global, log: &mut Row<Packet>, part: &Part, number: u32) -> Result<(), NoMemory>
     ensures { OnOk result (log.new ≡ log.old ++ kept_upto part.now number) }
 {
     for before in 0..number {

@@ -183,11 +183,7 @@ impl Epochs {
 }
 
 /// The places of these shards and numbers in the epoch.
-fn places_in(
-    alloc: Global,
-    epoch: Epoch,
-    pairs: &[(ShardId, u32)],
-) -> Result<Row<Place>, NoMemory>
+fn places_in(alloc: Global, epoch: Epoch, pairs: &[(ShardId, u32)]) -> Result<Row<Place>, NoMemory>
     ensures { IfOk result (λ places. places ≡ places_in epoch pairs.now) }
 {
     let mut places = Row::new(alloc);
