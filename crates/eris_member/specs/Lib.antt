@@ -1,4 +1,3 @@
 pub mod LateSends
 pub mod MemberInputs
-pub mod MemberRanges
 pub mod MemberValues

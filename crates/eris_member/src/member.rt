@@ -1,4 +1,5 @@
 ghost use Rattle.std.specs.Prelude.{◌≡◌, ◌<◌, ◌+◌, ◌*◌, IfOk, OnOk, OnErr, IsSome};
+ghost use Rattle.eris_base.specs.ConfigLimits.{IsConfig};
 ghost use Rattle.eris_base.specs.Places.{number_in};
 ghost use Rattle.eris_log.specs.Parts.{hold, mark_temp, mark_found, mark_dropped, merge};
 ghost use Rattle.eris_rules.specs.ReplicaStates.{fresh, is_normal, is_learner, learner_node};
@@ -77,11 +78,12 @@ impl EpochMember {
         epoch: Epoch,
         prior: Row<Packet>,
     ) -> EpochMember
-        ensures { result ≡ record {
+        ensures exact { result ≡ record {
           me = record { config = config; shard = shard; replica = replica; prior = prior };
           epoch = epoch;
           state = fresh epoch shard;
         } }
+        ensures config { IsConfig config }
     {
         EpochMember {
             alloc,
@@ -98,6 +100,27 @@ impl EpochMember {
             tally: ViewTally::new(alloc, View(0), config.f()),
             acks: AckTally::new(config.f()),
         }
+    }
+
+    /// The config of its system. It takes no memory.
+    pub fn config(&self) -> Config
+        ensures { result ≡ self.now.me.config }
+    {
+        self.config
+    }
+
+    /// Its shard. It takes no memory.
+    pub fn shard(&self) -> ShardId
+        ensures { result ≡ self.now.me.shard }
+    {
+        self.shard
+    }
+
+    /// Its number among the replicas of the shard. It takes no memory.
+    pub fn replica(&self) -> ReplicaId
+        ensures { result ≡ self.now.me.replica }
+    {
+        self.replica
     }
 
     /// The epoch. It takes no memory.
@@ -136,11 +159,11 @@ impl EpochMember {
         self.settled
     }
 
-    /// The packets of the epochs before. It takes no memory.
-    pub fn prior(&self) -> &[Packet]
+    /// The packets of the epochs before, on the shard, in order. It takes no memory.
+    pub fn prior(&self) -> &Row<Packet>
         ensures { result.now ≡ self.now.me.prior }
     {
-        self.prior.as_slice()
+        &self.prior
     }
 
     pub(crate) fn is_normal(&self) -> bool
