@@ -2,13 +2,16 @@
 #![tactic(auto)]
 
 mod input;
+mod late;
 mod logs;
 mod member;
 mod packets;
 mod probing;
 mod sends;
+mod settling;
 mod showing;
 mod speaking;
+mod views;
 
 pub use input::MemberInput;
 pub use member::EpochMember;
