@@ -11,6 +11,7 @@ mod sends;
 mod settling;
 mod showing;
 mod speaking;
+mod steps;
 mod views;
 
 pub use input::MemberInput;

@@ -7,3 +7,6 @@ mod settled;
 mod steps;
 
 pub use replica::Replica;
+
+#[cfg(test)]
+mod tests;
