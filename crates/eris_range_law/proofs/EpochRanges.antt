@@ -1,9 +1,9 @@
 -- A REPLICA KEEPS TO THE MESSAGES' RANGES over all epochs: by what a message that is in place and in its ranges
 -- carries, and by its rows within an epoch.
-use Rattle.std.proofs.Common.{◌≡◌, ◌<◌, ◌≤◌, ◌^◌, ◌&&◌, ◌||◌, ◌==◌, ℕ, Bool, true, false, not, Option, Some, None, is_some, nat_lt, List, [], ◌∷◌, ◌++◌, map, refl, ap, sym, ◌∙◌, subst, arith}
+use Rattle.std.proofs.Common.{◌≡◌, ◌&&◌, ◌==◌, ℕ, true, not, Option, Some, None, is_some, nat_lt, List, [], ◌∷◌, map, refl, sym, ◌∙◌, subst}
 use Rattle.std.specs.Prelude.{⊤}
 use Rattle.std.specs.List.{list_all, AllByRecursion}
-use Rattle.std.proofs.lemmas.Bool.{cond_both, eqb-true, lt-ltb}
+use Rattle.std.proofs.lemmas.Bool.{cond_both, eqb-true}
 use Rattle.eris_base.specs.declared.ids.Epoch.{Epoch}
 use Rattle.eris_base.specs.declared.ids.Place.{Place}
 use Rattle.eris_base.specs.declared.ids.ShardId.{ShardId}
@@ -15,8 +15,7 @@ use Rattle.eris_txn.specs.declared.packet.Packet.{Packet}
 use Rattle.eris_log.specs.PartValues.{PartValue}
 use Rattle.eris_log.specs.Parts.{empty_part}
 use Rattle.eris_log.specs.Laws.Parts.{IsPart-empty_part}
-use Rattle.eris_locks.specs.Shards.{names_shard}
-use Rattle.eris_in_place.specs.MessageRanges.{PacketFits, PacketsFit, PlaceFits, PartFits, PairsFit, MessageFits}
+use Rattle.eris_in_place.specs.MessageRanges.{PacketFits, PacketsFit, PlaceFits, PartFits, MessageFits}
 use Rattle.eris_msg.specs.declared.message.Message.{Message}
 use Rattle.eris_msg.specs.Codecs.{last_of}
 use Rattle.eris_msg.specs.Fields as f
@@ -25,14 +24,15 @@ use Rattle.eris_msg.specs.Ranges.{PairInRange}
 use Rattle.eris_msg.proofs.MessageFits as m
 use Rattle.eris_rules.specs.declared.replica_input.ReplicaInput.{ReplicaInput}
 use Rattle.eris_rules.specs.EpochMessages.{EpochMessage, Stamped, Instructs, Notifies, Exchanges, Responds}
-use Rattle.eris_rules.specs.EpochReplicas.{EpochInput, Get, Probe, Suspect, Sync, epoch_step}
+use Rattle.eris_rules.specs.EpochReplicas.{EpochInput, Get, Probe, Suspect, Sync}
 use Rattle.eris_rules.specs.InPlace.{names_participants, all_name_participants, packets_in, packets_held, is_held_right, is_right_part, has_right_part, has_right_log, is_sound, is_for_replica, is_in_place_at_replica}
 use Rattle.eris_rules.specs.Known.{knows_all}
 use Rattle.eris_rules.specs.Outer.{Inner, inner_of, places_in}
-use Rattle.eris_rules.specs.ReplicaStates.{Identity, Member, ReplicaState, ReplicaOut, fresh, begun, first_state, is_stopped}
+use Rattle.eris_rules.specs.ReplicaStates.{Identity, ReplicaState, fresh, begun, first_state, is_stopped}
 use Rattle.eris_rules.specs.Replicas.{still, member, steps_in, steps, asks_start, later_txn, takes_other, takes_part_in, takes_inner, may_promise, promises, epoch_ask_row, may_begin, start_epoch_row, takes_outer, takes_said, takes, message_step, probe_step, timer_step, replica_step}
-use Rattle.eris_range_law.specs.Fitting.{PacketIsRight, PartIsRight, HeldIsRight, MemberFits, StateFits, PlaceIsRight, PacketIsOf, PartCame, MessageIsRight, InputFits, ReplicaFits, ReplicaInputFits, ReplicaStepFits}
-use Rattle.eris_range_law.proofs.FieldTests.{both, left_of, right_of, items_have}
+use Rattle.eris_answer_law.specs.Answering.{PacketIsRight}
+use Rattle.eris_range_law.specs.Fitting.{HeldIsRight, PlaceIsRight, PartCame, MessageIsRight, InputFits, ReplicaFits, ReplicaInputFits, ReplicaStepFits}
+use Rattle.eris_answer_law.proofs.FieldTests.{both, left_of, right_of, items_have}
 use Rattle.eris_range_law.proofs.PartRanges.{number_below, word_from, place_from, packet_stamp, stamp_right}
 use Rattle.eris_range_law.proofs.RowRanges.{epoch_step-fits}
 

@@ -1,6 +1,4 @@
-pub mod AnswerRanges
 pub mod EpochRanges
-pub mod FieldTests
 pub mod PartRanges
 pub mod RowRanges
 pub mod SendRanges

@@ -1,6 +1,6 @@
 -- A part that is in its ranges stays in them as the rows change it, and what stands in it can be sent; used for the
 -- state of a replica.
-use Rattle.std.proofs.Common.{◌≡◌, ◌<◌, ◌≤◌, ◌+◌, ◌^◌, ◌&&◌, ◌||◌, ◌==◌, ℕ, zero, suc, Bool, true, false, cond, Option, Some, None, List, [], ◌∷◌, ◌++◌, length, find, fold, map, nat_lt, is_some, refl, ap, sym, ◌∙◌, subst, arith}
+use Rattle.std.proofs.Common.{◌≡◌, ◌<◌, ◌≤◌, ◌^◌, ◌&&◌, ◌||◌, ◌==◌, ℕ, zero, suc, Bool, true, false, cond, Option, Some, None, List, [], ◌∷◌, ◌++◌, length, find, map, nat_lt, is_some, refl, ap, sym, ◌∙◌, subst, arith}
 use Rattle.std.specs.List.{AllByRecursion}
 use Rattle.std.specs.Option.{option_map}
 use Rattle.std.proofs.lemmas.Bool.{lt-ltb, ltb-true, cond_both}
@@ -29,13 +29,14 @@ use Rattle.eris_in_place.specs.MessageRanges.{PlaceFits, PartFits, PairsFit}
 use Rattle.eris_in_place.proofs.MessageRangeLaws.{marks_fit}
 use Rattle.eris_msg.specs.Codecs.{items_fit}
 use Rattle.eris_msg.specs.Fields as f
-use Rattle.eris_msg.specs.Ranges.{PairInRange, PlaceInRange, HeldInRange, PartInRange}
+use Rattle.eris_msg.specs.Ranges.{PairInRange, PlaceInRange, HeldInRange}
 use Rattle.eris_msg.proofs.FieldLaws.{at_least}
 use Rattle.eris_rules.specs.Outer.{pairs_of}
 use Rattle.eris_rules.specs.Settling.{mark_all_dropped}
 use Rattle.eris_view.specs.ViewTallies.{with_part, union_of}
-use Rattle.eris_range_law.specs.Fitting.{PacketIsRight, PacketIsOf, PartIsRight, PlaceIsRight, HeldIsRight}
-use Rattle.eris_range_law.proofs.FieldTests.{both, left_of, right_of, items_have, last_added}
+use Rattle.eris_answer_law.specs.Answering.{PacketIsRight}
+use Rattle.eris_range_law.specs.Fitting.{PacketIsOf, PartIsRight, PlaceIsRight, HeldIsRight}
+use Rattle.eris_answer_law.proofs.FieldTests.{both, left_of, right_of, items_have, last_added}
 
 -- ---- numbers
 pub number_from : (number : ℕ) → 1 ≤ number → number < 2 ^ 32 → f.number.fits number ≡ true

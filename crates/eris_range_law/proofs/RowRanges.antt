@@ -1,6 +1,6 @@
 -- A REPLICA KEEPS TO THE MESSAGES' RANGES within an epoch: where what it keeps and its input are in them, so are
 -- what it keeps after its step and what it sends.
-use Rattle.std.proofs.Common.{◌≡◌, ◌+◌, ◌-◌, ◌&&◌, ℕ, max, Bool, true, false, not, Option, Some, None, List, [], ◌∷◌, is_some, refl, sym, ◌∙◌}
+use Rattle.std.proofs.Common.{◌≡◌, ◌+◌, ◌-◌, ◌&&◌, ℕ, not, Option, Some, None, [], ◌∷◌, is_some, refl, ◌∙◌}
 use Rattle.std.proofs.lemmas.Bool.{and_parts, cond_both}
 use Rattle.eris_base.specs.declared.ids.Epoch.{Epoch}
 use Rattle.eris_base.specs.declared.ids.Place.{Place}
@@ -9,7 +9,7 @@ use Rattle.eris_base.specs.StampPlaces.{is_number}
 use Rattle.eris_txn.specs.declared.packet.Packet.{Packet}
 use Rattle.eris_log.specs.Entries.{length_of}
 use Rattle.eris_log.specs.Held.{packet_at}
-use Rattle.eris_log.specs.Parts.{hold, mark_temp, mark_found, mark_dropped}
+use Rattle.eris_log.specs.Parts.{hold, mark_found, mark_dropped}
 use Rattle.eris_drop.specs.declared.request.RequestAnswer.{RequestAnswer}
 use Rattle.eris_drop.specs.Requests.{answer_request}
 use Rattle.eris_msg.specs.Fields as f
@@ -24,7 +24,7 @@ use Rattle.eris_range_law.proofs.PartRanges.{hold-right, mark_temp-right, mark_f
 use Rattle.eris_range_law.proofs.SendRanges.{sent_also, speaks_for-fits, speaks_after-fits, gap-fits}
 use Rattle.eris_range_law.proofs.SettlingRanges.{sync_ask_row-fits, ack_row-fits, settled_row-fits, sync_row-fits}
 use Rattle.eris_range_law.proofs.ViewRanges.{quiet-fits, shows_part-fits, suspect_row-fits, view_change_row-fits, start_view_row-fits}
-use Rattle.eris_range_law.proofs.FieldTests.{both}
+use Rattle.eris_answer_law.proofs.FieldTests.{both}
 
 module _ (me : Member) (epoch : Epoch) (fits : MemberFits me epoch) where
   abbrev Fits : EpochReplica → Type 0

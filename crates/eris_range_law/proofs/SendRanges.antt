@@ -1,12 +1,11 @@
 -- What a replica says to clients and to the coordinator is in the messages' ranges; used for its rows.
-use Rattle.std.proofs.Common.{◌≡◌, ◌<◌, ◌≤◌, ◌+◌, ◌-◌, ◌^◌, ◌&&◌, ℕ, zero, suc, Bool, true, false, cond, not, nat_le, Option, Some, None, List, [], ◌∷◌, ◌++◌, map, refl, ap, sym, ◌∙◌, subst, arith, inl, inr}
+use Rattle.std.proofs.Common.{◌≡◌, ◌<◌, ◌≤◌, ◌+◌, ◌-◌, ◌^◌, ℕ, zero, suc, Bool, true, false, nat_le, Option, Some, None, List, [], ◌∷◌, ◌++◌, map, refl, sym, ◌∙◌, subst, arith, inl, inr}
 use Rattle.std.specs.List.{list_any, AllByRecursion}
 use Rattle.std.proofs.lemmas.Bool.{cond_both, leb-true, or_cases}
 use Rattle.eris_base.specs.declared.ids.Epoch.{Epoch}
 use Rattle.eris_base.specs.declared.ids.Node.{Node}
 use Rattle.eris_base.specs.declared.ids.Phase.{Phase}
 use Rattle.eris_base.specs.declared.ids.Phase.TheVariants.{Whole, Prelim, Conclude}
-use Rattle.eris_base.specs.declared.ids.Place.{Place}
 use Rattle.eris_base.specs.Each.{Each}
 use Rattle.eris_base.proofs.Each.{Each-append}
 use Rattle.eris_txn.specs.declared.answer.Answer.{Answer}
@@ -30,10 +29,11 @@ use Rattle.eris_rules.specs.ReplicaStates.{Member, EpochReplica, is_learner}
 use Rattle.eris_rules.specs.Settling.{late_for, tells_late}
 use Rattle.eris_rules.specs.Speaking.{vouch_for, replies_with, speaks_of, speaks_of_held, speaks_for, speaks_at, speaks_after, holds_from, has_gap, find_gap}
 use Rattle.eris_rules.proofs.OuterLaws.{outer_sends-append}
-use Rattle.eris_range_law.specs.Fitting.{PacketIsRight, PartIsRight, HeldIsRight, MemberFits, StateFits}
-use Rattle.eris_range_law.proofs.AnswerRanges.{DoneFits, KeptFits, late_answers-fit, answer_after-fits}
+use Rattle.eris_range_law.specs.Fitting.{PartIsRight, HeldIsRight, MemberFits, StateFits}
+use Rattle.eris_answer_law.specs.Answering.{PacketIsRight, DoneFits, KeptFits}
+use Rattle.eris_answer_law.proofs.AnswerRanges.{late_answers-fit, answer_after-fits}
 use Rattle.eris_range_law.proofs.PartRanges.{number_from, number_below, place_from, packet_stamp, packet_id}
-use Rattle.eris_range_law.proofs.FieldTests.{both}
+use Rattle.eris_answer_law.proofs.FieldTests.{both}
 
 -- ---- sends
 pub each_sent : (epoch : Epoch) (nodes : List Node) (message : EpochMessage) → MessageFits (outer epoch message) → SendsFit (outer_sends epoch (send_each nodes message))

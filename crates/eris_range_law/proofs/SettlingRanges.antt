@@ -1,5 +1,5 @@
 -- The rows for settling keep to the messages' ranges.
-use Rattle.std.proofs.Common.{◌≡◌, ◌<◌, ◌≤◌, ◌+◌, ◌-◌, ◌^◌, ◌&&◌, ◌==◌, ℕ, Bool, true, false, not, nat_lt, List, [], ◌∷◌, ◌++◌, refl, ap, sym, ◌∙◌, subst, arith}
+use Rattle.std.proofs.Common.{◌≡◌, ◌<◌, ◌≤◌, ◌^◌, ◌&&◌, ◌==◌, ℕ, true, not, nat_lt, List, ◌∙◌, arith}
 use Rattle.std.proofs.lemmas.Bool.{cond_both, ltb-true}
 use Rattle.eris_base.specs.declared.ids.Epoch.{Epoch}
 use Rattle.eris_base.specs.declared.ids.Place.{Place}
@@ -8,7 +8,6 @@ use Rattle.eris_base.specs.declared.ids.View.{View}
 use Rattle.eris_base.specs.Each.{Each}
 use Rattle.eris_base.specs.Quorums.{same_replica}
 use Rattle.eris_log.specs.Entries.{length_of, covers}
-use Rattle.eris_log.specs.PartValues.{PartValue}
 use Rattle.eris_in_place.specs.MessageRanges.{SendsFit}
 use Rattle.eris_msg.specs.Fields as f
 use Rattle.eris_msg.proofs.MessageFits as m
@@ -23,7 +22,7 @@ use Rattle.eris_range_law.specs.Fitting.{PlaceIsRight, MemberFits, StateFits, Ro
 use Rattle.eris_range_law.proofs.PartRanges.{number_from, word_from, word_under, length_of-below, perm-fits, mark_all_dropped-right}
 use Rattle.eris_range_law.proofs.SendRanges.{each_sent, sent_also, tells_late-fits}
 use Rattle.eris_range_law.proofs.ViewRanges.{quiet-fits, enters_view-fits}
-use Rattle.eris_range_law.proofs.FieldTests.{both}
+use Rattle.eris_answer_law.proofs.FieldTests.{both}
 
 module _ (me : Member) (epoch : Epoch) (fits : MemberFits me epoch) where
   abbrev Fits : EpochReplica → Type 0

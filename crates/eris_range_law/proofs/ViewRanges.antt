@@ -1,5 +1,5 @@
 -- The rows for view changes keep to the messages' ranges.
-use Rattle.std.proofs.Common.{◌≡◌, ◌<◌, ◌≤◌, ◌+◌, ◌-◌, ◌^◌, ◌&&◌, ◌||◌, ◌==◌, ℕ, Bool, true, false, not, nat_lt, List, [], ◌∷◌, refl, ap, sym, ◌∙◌, subst, arith}
+use Rattle.std.proofs.Common.{◌≡◌, ◌<◌, ◌+◌, ◌-◌, ◌^◌, ◌&&◌, ◌==◌, ℕ, true, not, nat_lt, subst, arith}
 use Rattle.std.specs.List.{AllByRecursion}
 use Rattle.std.proofs.lemmas.Bool.{and_parts, cond_both, ltb-true, lt-ltb, eqb-true}
 use Rattle.eris_base.specs.declared.ids.Epoch.{Epoch}
@@ -17,7 +17,6 @@ use Rattle.eris_view.specs.ViewTallies.{is_ready, union_of, with_part}
 use Rattle.eris_range_law.specs.Fitting.{HeldIsRight, PartIsRight, PartCame, MemberFits, StateFits, RowFits}
 use Rattle.eris_range_law.proofs.PartRanges.{merge-right, union_of-right, with_part-right}
 use Rattle.eris_range_law.proofs.SendRanges.{each_sent}
-use Rattle.eris_range_law.proofs.FieldTests.{both}
 
 view_from : (number : ℕ) → number < 2 ^ 32 → f.view.fits (record { 0 = number }) ≡ true
 unfolding f.view f.word

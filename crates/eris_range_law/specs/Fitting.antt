@@ -9,7 +9,8 @@ use Rattle.eris_base.specs.ConfigLimits.{IsConfig}
 use Rattle.eris_base.specs.Each.{Each}
 use Rattle.eris_txn.specs.declared.packet.Packet.{Packet}
 use Rattle.eris_log.specs.PartValues.{PartValue}
-use Rattle.eris_in_place.specs.MessageRanges.{PacketFits, PlaceFits, PartFits, MessageFits, SendsFit}
+use Rattle.eris_answer_law.specs.Answering.{PacketIsRight}
+use Rattle.eris_in_place.specs.MessageRanges.{PlaceFits, PartFits, MessageFits, SendsFit}
 use Rattle.eris_locks.specs.Shards.{names_shard}
 use Rattle.eris_msg.specs.Fields as f
 use Rattle.eris_rules.specs.declared.replica_input.ReplicaInput.{ReplicaInput}
@@ -18,11 +19,6 @@ use Rattle.eris_rules.specs.EpochReplicas.{EpochInput, Get, Probe, Suspect, Sync
 use Rattle.eris_rules.specs.InPlace.{names_participants}
 use Rattle.eris_rules.specs.Outer.{outer_sends}
 use Rattle.eris_rules.specs.ReplicaStates.{Identity, Member, EpochReplica, EpochOut, ReplicaState, ReplicaOut}
-
--- a packet that is in its ranges, and names exactly its participants
-pub record PacketIsRight (packet : Packet) : Type 0 where
-  pub fits : PacketFits packet
-  pub exact : names_participants packet ≡ true
 
 -- a packet of a part of the shard: it names exactly its participants, and the shard among them
 abbrev pub HeldIsRight : ShardId → ℕ × Packet → Type 0

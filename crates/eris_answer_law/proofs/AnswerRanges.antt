@@ -1,7 +1,7 @@
 -- WHAT A SHARD'S STORE ANSWERS IS IN THE MESSAGES' RANGES, where each packet of its log is in them and names
 -- exactly its participants: so the shard has 1 to 32 items of what it answers by items, and each value is below
 -- 2^64. Used for the learner's replies and for the late answers.
-use Rattle.std.proofs.Common.{◌≡◌, ◌<◌, ◌≤◌, ◌+◌, ◌%◌, ◌^◌, ◌==◌, ℕ, zero, suc, Bool, true, false, ◌&&◌, ◌||◌, cond, not, Option, Some, None, List, [], ◌∷◌, ◌++◌, length, map, find, is_some, nat_lt, nat_le, refl, ap, sym, ◌∙◌, subst, arith}
+use Rattle.std.proofs.Common.{◌≡◌, ◌≤◌, ◌^◌, ◌==◌, ℕ, suc, Bool, true, false, ◌&&◌, ◌||◌, cond, not, Option, Some, None, List, [], ◌∷◌, ◌++◌, length, map, find, is_some, refl, ap, sym, ◌∙◌, subst, arith}
 use Rattle.std.specs.Prelude.{⊤}
 use Rattle.std.specs.List.{filter, list_any}
 use Rattle.std.specs.Option.{option_map}
@@ -17,7 +17,7 @@ use Rattle.eris_base.specs.Places.{number_in}
 use Rattle.eris_base.specs.TxnIds.{same_id}
 use Rattle.eris_base.proofs.Each.{Each-append, Each-filter}
 use Rattle.eris_txn.specs.declared.answer.Answer.{Answer}
-use Rattle.eris_txn.specs.declared.answer.Answer.TheVariants.{Ops, Committed, Aborted}
+use Rattle.eris_txn.specs.declared.answer.Answer.TheVariants.{Committed, Aborted}
 use Rattle.eris_txn.specs.declared.body.Body.{Body}
 use Rattle.eris_txn.specs.declared.body.Body.TheVariants.{Independent, Prelim, Commit, Abort}
 use Rattle.eris_txn.specs.declared.key.Key.{Key}
@@ -32,7 +32,6 @@ use Rattle.eris_txn.specs.Keys.{Values, same_key, with_value}
 use Rattle.eris_txn.specs.Operations.{key_of, has_value, sum_of, left_by, yes_or_no, answered, after, after_all, answers}
 use Rattle.eris_txn.specs.Plans.{written}
 use Rattle.eris_txn.proofs.BodyLaws.{has_shard-participants}
-use Rattle.eris_epoch.specs.SamePackets.{same_list}
 use Rattle.eris_epoch.proofs.SameLaws.{same_list-true}
 use Rattle.eris_locks.specs.declared.done.Done.{Done}
 use Rattle.eris_locks.specs.declared.shard_packet.ShardPacket.{ShardPacket}
@@ -40,13 +39,13 @@ use Rattle.eris_locks.specs.Locks.{locks_of}
 use Rattle.eris_locks.specs.LockTable.{Stepped, also, all_also, only, nothing_done, done, answer_of, values_after, execute, release, arrive_new, arrive, aborted_late, end_holding, end_waiting, conclude_first, conclude, step_by, step, run_dones, run_state}
 use Rattle.eris_locks.specs.Shards.{is_on, cut_body, cut, names_shard, on_shard}
 use Rattle.eris_locks.specs.States.{StoreState, empty, same_phase, phase_of, is_prelim, note, decide, is_decided, holds, waits, is_prelim_of, no_longer_waiting, blocked}
-use Rattle.eris_msg.specs.Codecs.{Codec, items_fit}
+use Rattle.eris_msg.specs.Codecs.{items_fit}
 use Rattle.eris_msg.specs.Fields as f
-use Rattle.eris_msg.proofs.FieldLaws.{at_least, at_most, tag_is}
+use Rattle.eris_msg.proofs.FieldLaws.{at_most, tag_is}
 use Rattle.eris_rules.specs.InPlace.{names_exactly, names_participants}
-use Rattle.eris_range_law.specs.Fitting.{PacketIsRight}
+use Rattle.eris_answer_law.specs.Answering.{PacketIsRight, AnswerFits, KeptFits, DoneFits}
 use Rattle.eris_rules.specs.ReplicaAnswers.{is_late_above, late_answers, prompt_answer, answer_after, store_after, store_answers}
-use Rattle.eris_range_law.proofs.FieldTests.{both, left_of, right_of}
+use Rattle.eris_answer_law.proofs.FieldTests.{both, left_of, right_of}
 
 -- ---- values
 abbrev ValueFits : ℕ → Type 0
@@ -113,9 +112,6 @@ written-fits (write ∷ writes) values h k =
     (with_value-fits write.key (Some write.value) values (some_found write.value h.0) k)
 
 -- ---- answers
-abbrev pub AnswerFits : Answer → Type 0
-AnswerFits answer = f.answer.fits answer ≡ true
-
 -- 1 to 32
 abbrev IsFew : ℕ → Type 0
 IsFew count = (f.from_to 1 32).fits count ≡ true
@@ -185,20 +181,11 @@ pub record ShardPacketFits (packet : ShardPacket) : Type 0 where
   pub id : f.id.fits packet.id ≡ true
   pub body : CutFits packet.body
 
--- the answer fits, where there is one
-abbrev pub KeptFits : Option Answer → Type 0
-KeptFits None = ⊤
-KeptFits (Some answer) = AnswerFits answer
-
 pub record StoreFits (state : StoreState) : Type 0 where
   pub values : ValuesFit state.values
   pub recorded : (id : TxnId) (phase : Phase) → KeptFits (state.recorded id phase)
   pub decided : (id : TxnId) → KeptFits (state.decided id)
   pub waiting : Each ShardPacketFits state.waiting
-
-pub record DoneFits (done : Done) : Type 0 where
-  pub id : f.id.fits done.id ≡ true
-  pub answer : f.answer.fits done.answer ≡ true
 
 pub record SteppedFits (stepped : Stepped) : Type 0 where
   pub state : StoreFits stepped.state
