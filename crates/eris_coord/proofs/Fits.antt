@@ -1,6 +1,7 @@
 -- THE COORDINATOR KEEPS TO THE MESSAGES' RANGES: where its state and its input do, the state after its step
 -- and what it sends do.
 use Rattle.std.proofs.Common.{◌≡◌, ◌<◌, ◌≤◌, ◌+◌, ◌^◌, ◌==◌, ℕ, zero, suc, true, ◌&&◌, List, [], ◌∷◌, nat_lt, nat_le, refl, sym, ◌∙◌, subst, arith}
+use Rattle.std.specs.Prelude.{Result, Ok, Err, IfOk}
 use Rattle.std.specs.List.{range_with_len}
 use Rattle.std.proofs.lemmas.Bool.{and_parts, and_from, cond_both, le-leb, lt-ltb}
 use Rattle.eris_base.specs.declared.ids.Epoch.{Epoch}
@@ -198,9 +199,15 @@ unfolding first_coordinator begun_epoch nothing_asked f.epoch f.word
 first_fits = record { current = refl; target = refl; closed = tt; noted = tt; inner = record { asked = tt; found = tt } }
 
 -- the same of a coordinator that made the step
-pub after_fits : (old new : StateValue) (input : CoordInput) (sends : List Outgoing) → (new, sends) ≡ after old (coord_step old.config old.state input)
+after_fits : (old new : StateValue) (input : CoordInput) (sends : List Outgoing) → (new, sends) ≡ after old (coord_step old.config old.state input)
     → IsConfig old.config → StateFits old.state → InputFits input → StateFits new.state × SendsFit sends
 after_fits old new input sends e is h k =
     let fits = steps_fit old.config old.state input is h k in
     let Fits : StateValue × List Outgoing → Type 0 = λ pair. StateFits pair.0.state × SendsFit pair.1 in
     subst Fits (sym e) (fits.state, fits.sends)
+
+pub result_fits : {E : Type 0} (old new : StateValue) (input : CoordInput) (result : Result (List Outgoing) E) → IsConfig old.config
+    → IfOk result (λ sends. (new, sends) ≡ after old (coord_step old.config old.state input)) → StateFits old.state → InputFits input
+    → IfOk result (λ sends. StateFits new.state × SendsFit sends)
+result_fits old new input (Ok sends) is e h k = after_fits old new input sends e is h k
+result_fits old new input (Err fault) is e h k = tt

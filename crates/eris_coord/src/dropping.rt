@@ -1,7 +1,7 @@
 //! A packet that a replica has, and a place that one dropped for a time.
-ghost use Rattle.std.specs.Prelude.{◌≡◌, IfOk};
+ghost use Rattle.std.specs.Prelude.{◌≡◌, IfOk, OnOk};
 ghost use Rattle.eris_rules.specs.Coordinators.{coord_steps_in};
-ghost use Rattle.eris_rules.specs.EpochCoords.{has_row, has_wanted, keeps_found, drops_rest, temp_dropped_row, notes_drop, drops_decided, drops_place};
+ghost use Rattle.eris_rules.specs.EpochCoords.{has_row, has_wanted, keeps_found, places_had, drops_rest, temp_dropped_row, notes_drop, drops_decided, drops_place};
 ghost use Rattle.eris_coord.specs.CoordinatorValues.{after};
 
 use crate::notes::forget_all;
@@ -53,16 +53,27 @@ impl State {
     }
 
     /// Drops the asked places of a packet of which a place is dropped.
-    #[tactic(auto, using(crate::proofs::Told::drops_rest_told))]
     fn drop_rest(&mut self, packet: &Packet) -> Result<Row<Outgoing>, NoMemory>
         ensures { IfOk result (λ sends. (self.new, sends) ≡ after self.old
             (coord_steps_in self.old.state (drops_rest self.old.config self.old.state.inner packet.now))) }
+    {
+        let had = self.move_to_dropped(packet)?;
+        drop_all(self.alloc, &self.config, had.as_slice())
+    }
+
+    /// Moves the asked places of a packet to the dropped ones, and answers them.
+    #[tactic(auto, unfolding(eris_rules::specs::Coordinators::coord_steps_in, eris_rules::specs::EpochCoords::drops_rest))]
+    fn move_to_dropped(&mut self, packet: &Packet) -> Result<Row<Place>, NoMemory>
+        ensures had { IfOk result (λ had. had ≡ places_had self.old.state.inner.asked packet.now) }
+        ensures state { OnOk result (self.new ≡ record self.old {
+          state = (coord_steps_in self.old.state (drops_rest self.old.config self.old.state.inner packet.now)).state;
+        }) }
     {
         let had = places_had(self.alloc, self.asked.as_slice(), &packet.stamp)?;
         remove_had(self.alloc, &mut self.asked, &packet.stamp);
         forget_all(&mut self.count, had.as_slice());
         add_all(self.alloc, &mut self.dropped, had.as_slice())?;
-        drop_all(self.alloc, &self.config, had.as_slice())
+        Ok(had)
     }
 
     /// A replica dropped a place of the current epoch for a time.

@@ -75,7 +75,6 @@ impl State {
     }
 
     /// Asks again for each asked place.
-    #[tactic(auto, using(crate::proofs::Told::nudge_row_told))]
     pub fn ask_again(&mut self) -> Result<Row<Outgoing>, NoMemory>
         ensures { IfOk result (λ sends. (self.new, sends) ≡ after self.old
             (coord_steps_in self.old.state (nudge_row self.old.config self.old.state.inner))) }
