@@ -1,0 +1,2 @@
+pub mod ExactShards
+pub mod MessageRangeLaws
