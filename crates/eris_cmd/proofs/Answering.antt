@@ -4,9 +4,9 @@ use Rattle.std.specs.Io.KnownBytes.{Appends}
 use Rattle.std.proofs.lemmas.Bool.Decides.{nat_tests}
 use Rattle.std.proofs.lemmas.Slice.Eq.{bytes_eq-Decides}
 use Rattle.eris_script.specs.Scripts.{BadLine}
-use Rattle.eris_world.specs.declared.thin_event.Event.{Event}
-use Rattle.eris_world.specs.ThinOrder.{Good}
-use Rattle.eris_world.specs.ThinWorld.{WorldState, run}
+use Rattle.eris_small_world.specs.declared.thin_event.Event.{Event}
+use Rattle.eris_small_world.specs.ThinOrder.{Good}
+use Rattle.eris_small_world.specs.ThinWorld.{WorldState, run}
 use Rattle.eris_cmd.specs.declared.due.Due.{Due}
 use Rattle.eris_cmd.specs.declared.status.Status.TheVariants.{Done, TooLarge}
 use Rattle.eris_cmd.specs.Calls.{answer_to, input_limit, Comes, status_for, ReportsRun}

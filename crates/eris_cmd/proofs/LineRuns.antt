@@ -5,8 +5,8 @@ use Rattle.eris_script.specs.declared.reason.Reason.TheVariants.{Header}
 use Rattle.eris_script.specs.Cuts.{cut_lines, lines, words}
 use Rattle.eris_script.specs.Headers.{header_of}
 use Rattle.eris_script.specs.Scripts.{BadLine}
-use Rattle.eris_world.specs.ThinKept.{KeptWorld}
-use Rattle.eris_world.specs.ThinWorld.{WorldState, start}
+use Rattle.eris_small_world.specs.ThinKept.{KeptWorld}
+use Rattle.eris_small_world.specs.ThinWorld.{WorldState, start}
 use Rattle.eris_cmd.specs.declared.thin_run.Stop.{Stop}
 use Rattle.eris_cmd.specs.declared.thin_run.Stop.TheVariants as stop
 use Rattle.eris_cmd.specs.ThinScript.{after_line, after_lines, after_text, outcome, version_of}

@@ -5,13 +5,13 @@ use Rattle.eris_base.specs.declared.ids.ClientId.{ClientId}
 use Rattle.eris_txn.specs.declared.op.Op.{Op}
 use Rattle.eris_script.specs.declared.event.Event.TheVariants as asked
 use Rattle.eris_script.specs.declared.line.Line.TheVariants as line
-use Rattle.eris_world.specs.declared.thin_event.Event.{Event}
-use Rattle.eris_world.specs.declared.thin_event.Event.TheVariants.{Flow, Submit}
-use Rattle.eris_world.specs.declared.thin_refusal.Refusal.{Refusal}
-use Rattle.eris_world.specs.declared.thin_refusal.Refusal.TheVariants.{NoSuchClient, NoSuchShard}
-use Rattle.eris_world.specs.ThinKept.{KeptWorld}
-use Rattle.eris_world.specs.ThinWaiting.{first_of}
-use Rattle.eris_world.specs.ThinWorld.{WorldState, after, are_on_shard, flowed_by, is_client, run_from, submitted, unless, waiting}
+use Rattle.eris_small_world.specs.declared.thin_event.Event.{Event}
+use Rattle.eris_small_world.specs.declared.thin_event.Event.TheVariants.{Flow, Submit}
+use Rattle.eris_small_world.specs.declared.thin_refusal.Refusal.{Refusal}
+use Rattle.eris_small_world.specs.declared.thin_refusal.Refusal.TheVariants.{NoSuchClient, NoSuchShard}
+use Rattle.eris_small_world.specs.ThinKept.{KeptWorld}
+use Rattle.eris_small_world.specs.ThinWaiting.{first_of}
+use Rattle.eris_small_world.specs.ThinWorld.{WorldState, after, are_on_shard, flowed_by, is_client, run_from, submitted, unless, waiting}
 use Rattle.eris_cmd.specs.ThinRuns.{RefusesSaid, Takes, TakesSaid}
 use Rattle.eris_cmd.specs.ThinScript.{refusal_reason, told}
 

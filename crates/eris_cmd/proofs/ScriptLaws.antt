@@ -15,10 +15,10 @@ use Rattle.eris_script.specs.Headers.{header_of}
 use Rattle.eris_script.specs.LineForms.{line_of}
 use Rattle.eris_script.specs.Scripts.{BadLine, Script, events_from, events_of, script, script_in, with_config, with_events}
 use Rattle.eris_script.proofs.FormLaws.{bind_ok}
-use Rattle.eris_world.specs.declared.thin_event.Event.{Event}
-use Rattle.eris_world.specs.declared.thin_event.Event.TheVariants as thin
-use Rattle.eris_world.specs.declared.thin_refusal.Refusal.{Refusal}
-use Rattle.eris_world.specs.ThinWorld.{WorldState, run, run_from, start}
+use Rattle.eris_small_world.specs.declared.thin_event.Event.{Event}
+use Rattle.eris_small_world.specs.declared.thin_event.Event.TheVariants as thin
+use Rattle.eris_small_world.specs.declared.thin_refusal.Refusal.{Refusal}
+use Rattle.eris_small_world.specs.ThinWorld.{WorldState, run, run_from, start}
 use Rattle.eris_cmd.specs.ThinScript.{after_line, after_lines, after_said, after_text, as_asked, is_known, is_one, known_line, outcome, refusal_reason, thin_events, thin_script, told, version_in, version_of}
 use Rattle.eris_cmd.proofs.Runs.{run_append}
 

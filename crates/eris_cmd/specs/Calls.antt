@@ -6,10 +6,10 @@ use Rattle.eris_base.specs.Transfers.{ReadsToEnd, ReadsPast, TakesFront}
 use Rattle.eris_script.specs.declared.reason.Reason.{Reason}
 use Rattle.eris_script.specs.ReportText.{report_text}
 use Rattle.eris_script.specs.Scripts.{BadLine, Script, script}
-use Rattle.eris_world.specs.declared.thin_event.Event.{Event}
-use Rattle.eris_world.specs.ThinOrder.{Good}
-use Rattle.eris_world.specs.ThinReport.{report_of}
-use Rattle.eris_world.specs.ThinWorld.{WorldState, run}
+use Rattle.eris_small_world.specs.declared.thin_event.Event.{Event}
+use Rattle.eris_small_world.specs.ThinOrder.{Good}
+use Rattle.eris_small_world.specs.ThinReport.{report_of}
+use Rattle.eris_small_world.specs.ThinWorld.{WorldState, run}
 use Rattle.eris_cmd.specs.declared.status.Status.{Status}
 use Rattle.eris_cmd.specs.declared.status.Status.TheVariants.{Done, CheckedNo, Usage, BadScript, ReadFault, WriteFault, NoMemory, TooLarge}
 use Rattle.eris_cmd.specs.Texts.{bad_script_text, too_large_text}

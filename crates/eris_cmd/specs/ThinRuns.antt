@@ -3,9 +3,9 @@ use Rattle.std.specs.Prelude.{◌≡◌, ℕ, ◌+◌, ◌≤◌, ⊤, false, Li
 use Rattle.eris_script.specs.declared.line.Line.{Line}
 use Rattle.eris_script.specs.declared.reason.Reason.{Reason}
 use Rattle.eris_script.specs.Cuts.{lines}
-use Rattle.eris_world.specs.declared.thin_event.Event.{Event}
-use Rattle.eris_world.specs.ThinKept.{KeptWorld}
-use Rattle.eris_world.specs.ThinWorld.{run_from}
+use Rattle.eris_small_world.specs.declared.thin_event.Event.{Event}
+use Rattle.eris_small_world.specs.ThinKept.{KeptWorld}
+use Rattle.eris_small_world.specs.ThinWorld.{run_from}
 use Rattle.eris_cmd.specs.declared.thin_run.Stop.{Stop}
 use Rattle.eris_cmd.specs.declared.thin_run.Stop.TheVariants as stop
 use Rattle.eris_cmd.specs.ThinScript.{after_line, after_lines, after_said, outcome}

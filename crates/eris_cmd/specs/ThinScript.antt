@@ -15,11 +15,11 @@ use Rattle.eris_script.specs.Forms.{◌>>=◌}
 use Rattle.eris_script.specs.Headers.{header_of}
 use Rattle.eris_script.specs.LineForms.{line_of}
 use Rattle.eris_script.specs.Scripts.{BadLine, Script}
-use Rattle.eris_world.specs.declared.thin_event.Event.{Event}
-use Rattle.eris_world.specs.declared.thin_event.Event.TheVariants as thin
-use Rattle.eris_world.specs.declared.thin_refusal.Refusal.{Refusal}
-use Rattle.eris_world.specs.declared.thin_refusal.Refusal.TheVariants as refusal
-use Rattle.eris_world.specs.ThinWorld.{WorldState, run_from, start}
+use Rattle.eris_small_world.specs.declared.thin_event.Event.{Event}
+use Rattle.eris_small_world.specs.declared.thin_event.Event.TheVariants as thin
+use Rattle.eris_small_world.specs.declared.thin_refusal.Refusal.{Refusal}
+use Rattle.eris_small_world.specs.declared.thin_refusal.Refusal.TheVariants as refusal
+use Rattle.eris_small_world.specs.ThinWorld.{WorldState, run_from, start}
 
 -- one shard of one replica, and one client
 abbrev pub is_one : ConfigValue → Bool

@@ -7,7 +7,7 @@ use crate::failure::Failure;
 use crate::status::Status;
 use crate::telling::tell;
 use eris_base::{Sink, Source};
-use eris_world::every_run_is_good;
+use eris_small_world::every_run_is_good;
 use std::alloc::Global;
 
 /// Does what the words ask, and answers how it ended. The only words today are `run` alone: the source

@@ -1,7 +1,7 @@
 ghost use Rattle.std.specs.Prelude.{◌≡◌, ◌⊎◌, ◌+◌, ◌*◌, ◌^◌, ◌<◌, ◌≤◌, [], ◌∷◌, Err, false, length, replicate, IfOk, IfErr, OnOk};
 ghost use Rattle.eris_script.specs.Cuts.{lines};
 ghost use Rattle.eris_script.specs.Forms.{Gives};
-ghost use Rattle.eris_world.specs.declared.thin_event.Event.TheVariants.{Flow as flow_event};
+ghost use Rattle.eris_small_world.specs.declared.thin_event.Event.TheVariants.{Flow as flow_event};
 ghost use Rattle.eris_cmd.specs.Calls.{input_limit};
 ghost use Rattle.eris_cmd.specs.ThinScript.{after_lines, is_known, is_one, known_line, outcome, version_of};
 ghost use Rattle.eris_cmd.specs.ThinRuns.{Takes, TakesSaid, RefusesSaid, TakesLine, RefusesAt, TakesLines, IsAfterScript, IfBad};
@@ -11,7 +11,7 @@ use eris_script::{
     Event as Asked, Line, LineFault, Reason, first_line, first_word, parse_header, parse_line,
 };
 use eris_txn::Op;
-use eris_world::{Event, Refusal, World};
+use eris_small_world::{Event, Refusal, World};
 use std::alloc::Global;
 
 /// Why a script wasn't run to its end.

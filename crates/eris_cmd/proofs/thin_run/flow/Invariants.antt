@@ -1,5 +1,5 @@
 use Rattle.std.proofs.Common.{replicate}
-use Rattle.eris_world.specs.declared.thin_event.Event.TheVariants.{Flow}
+use Rattle.eris_small_world.specs.declared.thin_event.Event.TheVariants.{Flow}
 use Rattle.eris_cmd.specs.ThinRuns.{Takes}
 use Rattle.eris_cmd.proofs.thin_run.flow.Given as goal
 

@@ -1,0 +1,5 @@
+mod AddLaws
+mod CountedLaws
+mod KeptLaws
+mod LimitLaws
+mod WaitingLaws

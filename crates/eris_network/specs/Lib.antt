@@ -1,0 +1,5 @@
+pub mod Counted
+pub mod KeptFrames
+pub mod Limits
+pub mod Networks
+pub mod WaitingNumbers

@@ -1,0 +1,16 @@
+-- What a network is to contracts.
+use Rattle.std.specs.Prelude.{ℕ, Bool, Option, List, option_map, slice_get}
+use Rattle.eris_msg.specs.declared.outgoing.Outgoing.{Outgoing}
+use Rattle.eris_msg.specs.Frames.{frame}
+use Rattle.eris_msg.specs.Spellings.{spelling}
+
+-- every message that was ever sent, in order of sending; the numbers of those that wait, ascending; and whether
+-- it is spent
+pub record NetworkValue : Type 0 where
+  pub sent : List Outgoing
+  pub waiting : List ℕ
+  pub spent : Bool
+
+-- the frame of the spelling of the sent message of a number
+abbrev pub frame_at : List Outgoing → ℕ → Option (List ℕ)
+frame_at sent number = option_map (λ one. frame (spelling one.message)) (slice_get sent number)

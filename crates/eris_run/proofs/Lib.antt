@@ -1,0 +1,6 @@
+pub mod Answering
+pub mod BegunLaws
+pub mod ClientCounts
+pub mod EventRuns
+pub mod LineRuns
+pub mod ScriptLaws

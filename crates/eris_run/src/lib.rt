@@ -1,0 +1,16 @@
+//! The run of a script, from the bytes of a source to the bytes of a sink and a status.
+#![tactic(auto)]
+
+mod due;
+mod failure;
+mod line_run;
+mod refused;
+mod run;
+mod script_run;
+mod status;
+mod telling;
+mod texts;
+
+pub use refused::{Limit, Refused, Why};
+pub use run::run_script;
+pub use status::Status;

@@ -1,0 +1,61 @@
+ghost use Rattle.std.specs.Prelude.{◌≡◌, ◌⊎◌, ◌+◌, ◌^◌, ◌<◌, ◌≤◌, Err, length, IfOk, IfErr, OnOk};
+ghost use Rattle.eris_run.specs.Calls.{input_limit};
+ghost use Rattle.eris_run.specs.LineRuns.{begun, begins, IfRefused, IsAfterScript, IsFine, RefusesOne, TakesLines};
+ghost use Rattle.eris_run.specs.ScriptRuns.{outcome};
+
+use crate::line_run::run_line;
+use crate::refused::{Refused, Stop, Why};
+use eris_base::{Config, NoMemory};
+use eris_script::{first_line, parse_header};
+use eris_world::World;
+use std::alloc::Global;
+
+// A world as it begins, with room for the lines of a script.
+#[tactic(auto, using(crate::proofs::EventRuns::beginnings))]
+fn begin(alloc: Global, config: Config) -> Result<World, NoMemory>
+    ensures value { IfOk result (λ world. world ≡ begins config) }
+    ensures fine { IfOk result IsFine }
+    ensures few { IfOk result (λ world. begun world.state ≡ 1) }
+{
+    World::new(alloc, config)
+}
+
+// Runs the lines behind the header, of which the first is line 2.
+fn run_lines(alloc: Global, version: u8, world: &mut World, text: &[u8]) -> Result<(), Stop>
+    requires known { (version ≡ 1) ⊎ (version ≡ 2) }
+    requires fine { IsFine world.old }
+    requires room { begun world.old.state + length text.now + 2 < 2 ^ 32 }
+    ensures ok { OnOk result (TakesLines version world.old world.new text.now) }
+    ensures bad { IfErr result (λ stop. IfRefused stop (RefusesOne version world.old text.now)) }
+{
+    let mut rest = text;
+    let mut number = 2;
+    while !rest.is_empty() {
+        let (line, more) = first_line(rest);
+        run_line(alloc, version, world, line, number)?;
+        rest = more;
+        number += 1;
+    }
+    Ok(())
+}
+
+/// Runs a whole script, and answers the world after it.
+pub(crate) fn run_bytes(alloc: Global, text: &[u8]) -> Result<World, Stop>
+    requires { length text.now ≤ input_limit }
+    ensures ok { IfOk result (IsAfterScript text.now) }
+    ensures bad { IfErr result (λ stop. IfRefused stop (λ refused. outcome text.now ≡ Err refused)) }
+{
+    let (first, rest) = first_line(text);
+    let header = match parse_header(first) {
+        Ok(header) => header,
+        Err(reason) => {
+            return Err(Stop::Refused(Refused {
+                line: 1,
+                why: Why::Reason(reason),
+            }));
+        }
+    };
+    let mut world = begin(alloc, header.config)?;
+    run_lines(alloc, header.version, &mut world, rest)?;
+    Ok(world)
+}
