@@ -1,8 +1,8 @@
 -- The shards of a body's items, which a client holds for a message: those that take part are exactly they. Used
 -- where a vote, an answer or a whole half is looked at.
-use Rattle.std.proofs.Common.{◌≡◌, ℕ, ◌+◌, Bool, true, false, cond, ◌&&◌, ◌||◌, ◌==◌, is_some, List, [], ◌∷◌, map, sum_by, IsTrue, refl, ap, sym, ◌∙◌, inl, inr}
+use Rattle.std.proofs.Common.{◌≡◌, ℕ, ◌+◌, Bool, true, cond, ◌&&◌, ◌||◌, ◌==◌, is_some, List, [], ◌∷◌, map, sum_by, IsTrue, refl, ap, sym, ◌∙◌, inl, inr}
 use Rattle.std.specs.Cmp.{both_ways as either_way}
-use Rattle.std.specs.List.{list_all, list_any}
+use Rattle.std.specs.List.{list_all}
 use Rattle.std.proofs.lemmas.Bool.{and_parts, and_from, both_ways, eq-eqb, eqb-true, or_cases, or_right}
 use Rattle.std.proofs.lemmas.List.Folds.{list_all-map}
 use Rattle.std.proofs.lemmas.List.Sums.{sum_by-cons}

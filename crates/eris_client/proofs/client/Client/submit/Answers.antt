@@ -1,4 +1,4 @@
-use Rattle.std.proofs.Common.{ap, sym, ◌∙◌, ◌<◌, subst, Some, true, false, ◌≡◌}
+use Rattle.std.proofs.Common.{ap, sym, ◌∙◌, ◌<◌, subst, Some}
 use Rattle.eris_txn.specs.declared.history.HistoryEvent.TheVariants.{Submit}
 use Rattle.eris_rules.specs.Clients.{submit}
 use Rattle.eris_client.specs.ClientRanges.{StateFits, StepFits}
