@@ -1,14 +1,12 @@
 -- What follows an input adds to what its row sends; used by the step, which adds the one to the other.
-use Rattle.std.proofs.Common.{◌≡◌, ℕ, Bool, true, false, ◌&&◌, not, ◌+◌, cond, List, [], ◌∷◌, ◌++◌, refl, ap, sym, ◌∙◌, append_assoc}
-use Rattle.std.proofs.lemmas.Bool.{cond_both}
+use Rattle.std.proofs.Common.{◌≡◌, Bool, true, false, ◌&&◌, not, ◌+◌, cond, List, ◌++◌, refl, ap, sym, ◌∙◌, append_assoc}
 use Rattle.std.proofs.lemmas.List.{append-nil}
-use Rattle.eris_base.specs.declared.ids.Epoch.{Epoch}
 use Rattle.eris_base.specs.StampPlaces.{is_number}
 use Rattle.eris_log.specs.Entries.{length_of}
 use Rattle.eris_msg.specs.declared.outgoing.Outgoing.{Outgoing}
 use Rattle.eris_rules.specs.EpochMessages.{EpochSend}
 use Rattle.eris_rules.specs.Outer.{outer_sends}
-use Rattle.eris_rules.specs.ReplicaStates.{Member, EpochReplica, EpochOut, quiet, is_normal}
+use Rattle.eris_rules.specs.ReplicaStates.{Member, EpochOut, quiet, is_normal}
 use Rattle.eris_rules.specs.Speaking.{speaks_on, has_gap, asks_gap, asks_once, tail}
 use Rattle.eris_rules.proofs.OuterLaws.{outer_sends-append}
 use Rattle.eris_member.specs.MemberValues.{MemberValue, after, behind}

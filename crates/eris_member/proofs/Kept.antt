@@ -1,6 +1,6 @@
 -- A replica's part stays of its epoch and shard, and so do the parts that it notes; used by the small changes
 -- of its state.
-use Rattle.std.proofs.Common.{◌≡◌, ℕ, Bool, Option, None, Some, List, [], ◌∷◌, ◌==◌, cond, fold, nat_lt, refl, sym, ◌∙◌, ap}
+use Rattle.std.proofs.Common.{◌≡◌, ℕ, Option, None, Some, List, [], ◌∷◌, ◌==◌, cond, nat_lt, sym, ◌∙◌, ap}
 use Rattle.std.proofs.lemmas.Bool.{cond_both}
 use Rattle.eris_base.specs.declared.ids.Epoch.{Epoch}
 use Rattle.eris_base.specs.declared.ids.ReplicaId.{ReplicaId}
@@ -9,7 +9,6 @@ use Rattle.eris_base.specs.Each.{Each}
 use Rattle.eris_base.specs.Places.{number_in}
 use Rattle.eris_base.specs.Quorums.{same_replica}
 use Rattle.eris_txn.specs.declared.packet.Packet.{Packet}
-use Rattle.eris_log.specs.Growth.{OfOneShard}
 use Rattle.eris_log.specs.Held.{with_packet}
 use Rattle.eris_log.specs.PartValues.{PartValue}
 use Rattle.eris_log.specs.Parts.{hold, hold_at, merge}
