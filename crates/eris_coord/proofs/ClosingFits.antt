@@ -1,6 +1,6 @@
 -- What closing an epoch leaves, and the logs of the shards in it, are in range where the noted parts and the found
 -- packets are.
-use Rattle.std.proofs.Common.{◌+◌, ◌==◌, not, List, [], ◌∷◌, ◌++◌, map, filter, fold}
+use Rattle.std.proofs.Common.{◌==◌, not, List, [], ◌∷◌, ◌++◌, map, filter, fold}
 use Rattle.std.proofs.lemmas.Bool.{cond_both}
 use Rattle.eris_base.specs.declared.ids.Epoch.{Epoch}
 use Rattle.eris_base.specs.declared.ids.Place.{Place}

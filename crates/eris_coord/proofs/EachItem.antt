@@ -1,6 +1,6 @@
 -- A property of each item of a list, where the list is mapped, sorted or searched. The ranges of what the
 -- coordinator keeps rest on it.
-use Rattle.std.proofs.Common.{◌<◌, Bool, cond, Option, Some, None, List, [], ◌∷◌, map, find, fold, is_some}
+use Rattle.std.proofs.Common.{Bool, Option, Some, None, List, [], ◌∷◌, map, find, fold, is_some}
 use Rattle.std.specs.Prelude.{⊤}
 use Rattle.std.specs.List.{flat_map}
 use Rattle.std.specs.Ordering.{is_lt}

@@ -26,7 +26,7 @@ use Rattle.eris_rules.specs.Addressees.{all_replicas, shard_replicas}
 use Rattle.eris_rules.specs.CoordStates.{EpochCoordOut, CoordState, begun_epoch, first_coordinator, nothing_asked, is_frozen}
 use Rattle.eris_rules.specs.Coordinators.{stays, coord_steps_in, start_of, starts, takes_older, takes_elsewhere, decides_in, coord_takes_inner, tell_all, raises_target, new_epoch_above, new_epoch_row, epoch_tally, left_behind, after_closing, starts_shard, starts_all, closes, tests_closing, notes_state, epoch_state_late, epoch_state_row, coord_takes, coord_message_step, nudge_step, coord_step}
 use Rattle.eris_rules.specs.EpochCoords.{nudge_row, epoch_coord_step}
-use Rattle.eris_rules.specs.EpochMessages.{EpochMessage, Stamped, Instructs, Notifies, Exchanges, Responds, Request, Found, Dropped, Find, Has, TempDropped}
+use Rattle.eris_rules.specs.EpochMessages.{EpochMessage, Stamped, Instructs, Notifies, Exchanges, Responds, Request, Find, Has, TempDropped}
 use Rattle.eris_rules.specs.InPlace.{is_in_place_at_coordinator}
 use Rattle.eris_rules.specs.Outer.{Inner, tell_each}
 use Rattle.eris_in_place.specs.MessageRanges.{PacketFits, PlaceFits, MessageFits, SendsFit}

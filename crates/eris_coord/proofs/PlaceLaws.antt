@@ -1,12 +1,10 @@
 -- Ascending places of which some are taken out still ascend.
-use Rattle.std.proofs.Common.{◌≡◌, Bool, true, false, ◌&&◌, cond, Option, Some, None, List, [], ◌∷◌, filter, IsTrue, refl, ap, sym, ◌∙◌}
+use Rattle.std.proofs.Common.{◌≡◌, Bool, List, [], ◌∷◌, filter, IsTrue, refl}
 use Rattle.std.specs.List.{AllByRecursion}
-use Rattle.std.specs.Ordering.{is_lt}
 use Rattle.std.specs.declared.cmp.Ordering.TheVariants.{Less}
 use Rattle.std.proofs.lemmas.Bool.{cond_both}
 use Rattle.eris_base.specs.declared.ids.Place.{Place}
 use Rattle.eris_log.specs.Places.{place_cmp, places_ascend}
-use Rattle.eris_log.specs.Sorted.{ascends, ascends_from}
 use Rattle.eris_log.specs.Laws.Places.{place_cmp-total}
 use Rattle.eris_log.specs.Laws.Sorted.{below_from, ascends_after, ascends_tail}
 

@@ -1,5 +1,5 @@
 -- The rows of one epoch that tell all replicas, as steps of the whole.
-use Rattle.std.proofs.Common.{◌≡◌, ℕ, Bool, true, false, ◌&&◌, List, [], ◌∷◌, ◌++◌, filter, not, IsTrue, refl, ap, sym, ◌∙◌}
+use Rattle.std.proofs.Common.{◌≡◌, ℕ, true, List, [], ◌∷◌, ◌++◌, filter, not, refl, ap, sym, ◌∙◌}
 use Rattle.std.specs.Prelude.{Result, Ok, Err, IfOk}
 use Rattle.std.specs.List.{flat_map, range_with_len}
 use Rattle.std.proofs.lemmas.Bool.{and_parts}
@@ -17,7 +17,7 @@ use Rattle.eris_msg.specs.declared.outgoing.Outgoing.{Outgoing}
 use Rattle.eris_rules.specs.Addressees.{all_replicas, shard_replicas}
 use Rattle.eris_rules.specs.CoordStates.{CoordState, CoordOut}
 use Rattle.eris_rules.specs.Coordinators.{coord_steps_in, tell_all, after_closing, starts_shard, starts_all, closes}
-use Rattle.eris_rules.specs.EpochCoords.{to_all, asks_all, keeps_found, drops_rest, drops_place, nudge_row, all_hear_dropped, places_had, places_not_had, forget_all}
+use Rattle.eris_rules.specs.EpochCoords.{to_all, asks_all, keeps_found, drops_rest, drops_place, nudge_row, all_hear_dropped, places_had, forget_all}
 use Rattle.eris_rules.specs.EpochMessages.{EpochMessage, Instructs, Request, Found, Dropped}
 use Rattle.eris_rules.specs.InPlace.{is_in_place_at_coordinator, is_for_coordinator, is_sound}
 use Rattle.eris_rules.specs.Outer.{outer, outer_sends, tell_each}
