@@ -16,6 +16,7 @@ use Rattle.eris_run.specs.Calls.{Comes, IfBadScript, IfTooLarge, RefusesLarge, R
 use Rattle.eris_run.specs.Dues.{IsDue}
 use Rattle.eris_run.specs.ScriptRuns.{Ran, outcome}
 use Rattle.eris_run.specs.Texts.{refusal_text, too_large_text}
+use Rattle.eris_run.proofs.FirstRefusals.{first_refused}
 use Rattle.eris_run.proofs.ScriptLaws.{line_above, script_taken}
 
 -- all that is promised of a status whose text was written
@@ -67,7 +68,7 @@ module _ {left left' taken taken' : Option (List ℕ)} (bytes : List ℕ) (comes
   line_refused line (why.Reason reason) read is written =
       record {
         done = λ same. absurd cc;
-        bad_script = record { bytes = bytes; read = read; refused = is; written = written };
+        bad_script = record { bytes = bytes; read = read; first = first_refused bytes (record { line = line; why = why.Reason reason }) is; refused = is; written = written };
         too_large = tt;
         no_usage = λ same. cc;
         no_check = λ same. cc;
@@ -76,7 +77,7 @@ module _ {left left' taken taken' : Option (List ℕ)} (bytes : List ℕ) (comes
       record {
         done = λ same. absurd cc;
         bad_script = tt;
-        too_large = inr (record { above = line_above bytes (record { line = line; why = why.Limit limit }) is; limit = limit; bytes = bytes; read = read; refused = is; written = written });
+        too_large = inr (record { above = line_above bytes (record { line = line; why = why.Limit limit }) is; limit = limit; bytes = bytes; read = read; first = first_refused bytes (record { line = line; why = why.Limit limit }) is; refused = is; written = written });
         no_usage = λ same. cc;
         no_check = λ same. cc;
       }

@@ -29,7 +29,7 @@ one_is config w next event took = of_refusal (refusal config w event) took
     of_refusal None same = cc
     of_refusal (Some why) same = absurd cc
 
-ran_is : (config : ConfigValue) (w v : WorldState) (events : List Event) → after_events config w events ≡ Ok v → run_from config (Some w) events ≡ Some v
+pub ran_is : (config : ConfigValue) (w v : WorldState) (events : List Event) → after_events config w events ≡ Ok v → run_from config (Some w) events ≡ Some v
 unfolding after_events run_from
 ran_is config w v [] ran = let same : w ≡ v = cc in ap (λ (u : WorldState). Some u) same
 ran_is config w v (event ∷ events) ran = of_first (after_event config w event) refl ran (λ next rest. ran_is config next v events rest)
@@ -46,12 +46,12 @@ told_ok : (ran : Result WorldState Refusal) (v : WorldState) → told ran ≡ Ok
 told_ok (Ok next) v same = let is : next ≡ v = cc in ap (λ (w : WorldState). Ok w) is
 told_ok (Err why) v same = absurd cc
 
-record LineTaken (version : ℕ) (config : ConfigValue) (w v : WorldState) (text : List ℕ) : Type 0 where
-  said : Line
-  says : line_of version text ≡ Ok said
-  ran : after_events config w (events_of said) ≡ Ok v
+pub record LineTaken (version : ℕ) (config : ConfigValue) (w v : WorldState) (text : List ℕ) : Type 0 where
+  pub said : Line
+  pub says : line_of version text ≡ Ok said
+  pub ran : after_events config w (events_of said) ≡ Ok v
 
-line_taken : (version : ℕ) (config : ConfigValue) (w v : WorldState) (text : List ℕ) → after_line version config w text ≡ Ok v → LineTaken version config w v text
+pub line_taken : (version : ℕ) (config : ConfigValue) (w v : WorldState) (text : List ℕ) → after_line version config w text ≡ Ok v → LineTaken version config w v text
 unfolding after_line after_said
 line_taken version config w v text took = of_read (line_of version text) refl took
   where

@@ -15,6 +15,7 @@ use Rattle.eris_run.specs.declared.refused.Why.{Why}
 use Rattle.eris_run.specs.declared.refused.Why.TheVariants as why
 use Rattle.eris_run.specs.declared.status.Status.{Status}
 use Rattle.eris_run.specs.declared.status.Status.TheVariants.{Done, CheckedNo, Usage, BadScript, ReadFault, WriteFault, NoMemory, TooLarge}
+use Rattle.eris_run.specs.FirstRefused.{IsFirstRefused}
 use Rattle.eris_run.specs.ScriptRuns.{Ran, outcome}
 use Rattle.eris_run.specs.Texts.{bad_script_text, limit_text, refusal_text, too_large_text}
 
@@ -37,6 +38,7 @@ pub record ReportsRun (left left' taken taken' : Option (List ℕ)) : Type 0 whe
 pub record RefusesLine (left left' taken taken' : Option (List ℕ)) (line : ℕ) (reason : Reason) : Type 0 where
   pub bytes : List ℕ
   pub read : ReadsToEnd left left' input_limit bytes
+  pub first : IsFirstRefused bytes line (why.Reason reason)
   pub refused : outcome bytes ≡ Err (record { line = line; why = why.Reason reason })
   pub written : Appends taken taken' (bad_script_text line reason)
 
@@ -52,6 +54,7 @@ pub record RefusesSends (left left' taken taken' : Option (List ℕ)) (line : �
   pub limit : Limit
   pub bytes : List ℕ
   pub read : ReadsToEnd left left' input_limit bytes
+  pub first : IsFirstRefused bytes line (why.Limit limit)
   pub refused : outcome bytes ≡ Err (record { line = line; why = why.Limit limit })
   pub written : Appends taken taken' (limit_text line limit)
 
@@ -92,6 +95,12 @@ status_for (Err refused) = status_of refused.line refused.why
 -- the status that is due for all the bytes of a source
 abbrev pub status_due : List ℕ → Status
 status_due bytes = if nat_lt input_limit (length bytes) then TooLarge 0 else status_for (outcome bytes)
+
+-- ACCEPTED: a source of so many bytes, which are a script of which no event is refused, is answered Done or by want of memory
+abbrev pub IsAccepted : List ℕ → Status → Type 0
+IsAccepted bytes status =
+    (whole : Script) (world : WorldState) → length bytes ≤ input_limit → script bytes ≡ Ok whole → run whole.config whole.events ≡ Some world
+    → (status ≡ Done) ⊎ (status ≡ NoMemory)
 
 -- what holds where the status names a refused line
 abbrev pub IfBadScript : Status → (ℕ → Reason → Type 0) → Type 0

@@ -1,5 +1,6 @@
 pub mod Calls
 pub mod Dues
+pub mod FirstRefused
 pub mod LineRuns
 pub mod ScriptRuns
 pub mod Statuses

@@ -26,13 +26,13 @@ fn take_event(world: &mut World, event: Event, number: u32) -> Result<(), Stop>
 }
 
 // A flow where nothing waits does nothing, so the count stops there.
-fn flow(world: &mut World, times: u32, number: u32) -> Result<(), Stop>
+fn flow(world: &mut World, flows: u32, number: u32) -> Result<(), Stop>
     requires fine { IsFine world.old }
     requires room { begun world.old.state + 1 < 2 ^ 32 }
-    ensures ok { OnOk result (Takes world.old world.new (replicate times flow_event) 0) }
-    ensures bad { IfErr result (λ stop. IfRefused stop (Refuses world.old (replicate times flow_event) number)) }
+    ensures ok { OnOk result (Takes world.old world.new (replicate flows flow_event) 0) }
+    ensures bad { IfErr result (λ stop. IfRefused stop (Refuses world.old (replicate flows flow_event) number)) }
 {
-    for _ in 0..times {
+    for _ in 0..flows {
         if !world.has_waiting() {
             return Ok(());
         }
@@ -42,13 +42,13 @@ fn flow(world: &mut World, times: u32, number: u32) -> Result<(), Stop>
 }
 
 // A loss where nothing waits does nothing, so the count stops there.
-fn lose(world: &mut World, times: u32, number: u32) -> Result<(), Stop>
+fn lose(world: &mut World, losses: u32, number: u32) -> Result<(), Stop>
     requires fine { IsFine world.old }
     requires room { begun world.old.state + 1 < 2 ^ 32 }
-    ensures ok { OnOk result (Takes world.old world.new (replicate times lose_event) 0) }
-    ensures bad { IfErr result (λ stop. IfRefused stop (Refuses world.old (replicate times lose_event) number)) }
+    ensures ok { OnOk result (Takes world.old world.new (replicate losses lose_event) 0) }
+    ensures bad { IfErr result (λ stop. IfRefused stop (Refuses world.old (replicate losses lose_event) number)) }
 {
-    for _ in 0..times {
+    for _ in 0..losses {
         if !world.has_waiting() {
             return Ok(());
         }

@@ -1,6 +1,6 @@
 ghost use Rattle.std.specs.Prelude.{◌≡◌, ◌≢◌, ◌⊎◌, ◌≤◌, IfSome};
 ghost use Rattle.eris_base.specs.Faults.{Rose};
-ghost use Rattle.eris_run.specs.Calls.{ReportsRun, RefusesLarge, RefusesLine, StopsWriting, IfBadScript, IfTooLarge, status_due};
+ghost use Rattle.eris_run.specs.Calls.{ReportsRun, RefusesLarge, RefusesLine, StopsWriting, IfBadScript, IfTooLarge, IsAccepted, status_due};
 
 use crate::due::due_of;
 use crate::failure::Failure;
@@ -36,6 +36,10 @@ pub fn run_script<S: Source, K: Sink>(alloc: Global, src: &mut S, snk: &mut K) -
     // Where neither count of faults rose, the answer is the one that all the bytes of the source are due.
     ensures complete { ¬ Rose (S.faults src.old) (S.faults src.new) → ¬ Rose (K.faults snk.old) (K.faults snk.new)
         → IfSome (S.left src.old) (λ left. (result ≡ status_due left) ⊎ (result ≡ Status.NoMemory)) }
+
+    // So a script of which no line is refused is answered by its report.
+    ensures accepts { ¬ Rose (S.faults src.old) (S.faults src.new) → ¬ Rose (K.faults snk.old) (K.faults snk.new)
+        → IfSome (S.left src.old) (λ left. IsAccepted left result) }
 
     // The counts of faults never fall.
     ensures source_count { S.faults src.old ≤ S.faults src.new }
