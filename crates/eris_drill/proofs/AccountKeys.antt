@@ -1,5 +1,5 @@
 -- The accounts' names are names, and a transfer between two accounts is a plan: used by the code that makes the script.
-use Rattle.std.proofs.Common.{◌≡◌, ◌+◌, ◌*◌, ◌/◌, ◌%◌, ◌<◌, ◌==◌, ◌&&◌, ◌||◌, Bool, true, false, ℕ, List, [], ◌∷◌, None, Some, ap, refl, sym, ◌∙◌, arith, IsTrue}
+use Rattle.std.proofs.Common.{◌≡◌, ◌+◌, ◌/◌, ◌%◌, ◌<◌, true, false, ℕ, List, [], ◌∷◌, None, Some, ap, sym, ◌∙◌, arith}
 use Rattle.eris_txn.specs.declared.key.Key.{Key}
 use Rattle.eris_txn.specs.declared.plan.Guard.{Guard}
 use Rattle.eris_txn.specs.declared.plan.PlanFault.{PlanFault}
@@ -59,8 +59,8 @@ no_fault turn keys guards settings fault few near locked guarded set found =
     cases
     (sym (transfer_is_plan turn few near)
     ∙ sym (ap (λ (all : List Key). plan_fault all guards settings) locked
-        ∙ ap (λ (all : List Guard). plan_fault (transfer turn).keys all settings) guarded
-        ∙ ap (λ (all : List Setting). plan_fault (transfer turn).keys (transfer turn).guards all) set)
+    ∙ ap (λ (all : List Guard). plan_fault (transfer turn).keys all settings) guarded
+    ∙ ap (λ (all : List Setting). plan_fault (transfer turn).keys (transfer turn).guards all) set)
     ∙ found)
   where
     cases : None ≡ Some fault → ⊥

@@ -1,7 +1,7 @@
 -- What is drawn for a turn is in its bounds, and the turns of a drill one by one: used by the code that makes the script.
-use Rattle.std.proofs.Common.{◌≡◌, ◌<◌, ◌+◌, ◌%◌, ℕ, List, ◌++◌, ap, sym, refl, ◌∙◌, arith, subst, add-one}
+use Rattle.std.proofs.Common.{◌≡◌, ◌<◌, ◌+◌, ◌%◌, ℕ, List, ◌++◌, sym, refl, arith, subst, add-one}
 use Rattle.eris_drill.specs.declared.turn.Turn.{Turn}
-use Rattle.eris_drill.specs.Draws.{draw, turn_at, turn_from}
+use Rattle.eris_drill.specs.Draws.{turn_at, turn_from}
 use Rattle.eris_drill.specs.DrillLines.{below}
 
 below_bound : (word : ℕ) → word % 16 < 16

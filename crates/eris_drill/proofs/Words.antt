@@ -2,7 +2,7 @@
 use Rattle.std.proofs.Common.{◌≡◌, ◌∙◌, ◌+◌, ◌*◌, ℕ, zero, suc, ap, refl, arith, List}
 use Rattle.std.proofs.lemmas.Grind.{flat_map-append}
 use Rattle.std.proofs.lemmas.List.{append_assoc}
-use Rattle.rand_pcg.specs.Lcg.{Lcg, state_after, next_state, next, advance}
+use Rattle.rand_pcg.specs.Lcg.{Lcg, state_after, next_state, next}
 use Rattle.rand_pcg.specs.Pcg.{multiplier_64}
 use Rattle.eris_drill.specs.Draws.{after_words}
 

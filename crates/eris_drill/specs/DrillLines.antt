@@ -1,8 +1,7 @@
 -- THE DRILL: a day at a bank of 16 accounts on 4 shards, each of 3 replicas, with 8 clients. At its opening each account
 -- gets 1000. In each turn a client transfers between two accounts, or reads them; packets are lost; at noon a learner
 -- crashes. At the closing each transaction of the turns is asked for twice more.
-use Rattle.std.specs.Prelude.{ℕ, zero, suc, ◌+◌, ◌/◌, ◌%◌, ◌==◌, nat_lt, List, [], ◌∷◌, ◌++◌, map, if◌then◌else◌}
-use Rattle.std.specs.List.{range_with_len}
+use Rattle.std.specs.Prelude.{ℕ, zero, suc, ◌+◌, ◌/◌, ◌%◌, ◌==◌, nat_lt, List, [], ◌∷◌, ◌++◌, if◌then◌else◌}
 use Rattle.eris_base.specs.declared.ids.ClientId.{ClientId}
 use Rattle.eris_base.specs.ConfigLimits.{ConfigValue}
 use Rattle.eris_txn.specs.declared.key.Key.{Key}
@@ -12,7 +11,7 @@ use Rattle.eris_txn.specs.PlanValues.{PlanValue}
 use Rattle.eris_script.specs.declared.event.Event.{Event}
 use Rattle.eris_script.specs.declared.event.Event.TheVariants as event
 use Rattle.eris_script.specs.declared.line.Line.{Line}
-use Rattle.eris_script.specs.declared.line.Line.TheVariants.{One, Flow, Lose}
+use Rattle.eris_script.specs.declared.line.Line.TheVariants.{One, Flow}
 use Rattle.eris_drill.specs.declared.turn.Turn.{Turn}
 use Rattle.eris_drill.specs.Draws.{turn_at}
 
@@ -57,7 +56,7 @@ transfer turn =
       keys = payer turn ∷ payee turn ∷ [];
       guards = record { key = payer turn; least = turn.amount } ∷ [];
       settings =
-        record { key = payer turn; how = Minus turn.amount } ∷ record { key = payee turn; how = Plus turn.amount } ∷ [];
+          record { key = payer turn; how = Minus turn.amount } ∷ record { key = payee turn; how = Plus turn.amount } ∷ [];
     }
 
 -- one turn in four only reads

@@ -10,7 +10,6 @@ use Rattle.eris_txn.specs.declared.txn.Txn.{Txn}
 use Rattle.eris_txn.specs.Keys.{Values, key_cmp, no_values}
 use Rattle.eris_txn.specs.KeyValues.{total_of, values_of}
 use Rattle.eris_audit.specs.declared.order_line.OrderLine.{OrderLine}
-use Rattle.eris_audit.specs.declared.outcome.Outcome.{Outcome}
 use Rattle.eris_audit.specs.declared.outcome.Outcome.TheVariants.{Done, Committed, Aborted, Pending}
 use Rattle.eris_audit.specs.Histories.{txn_of}
 use Rattle.eris_audit.specs.SerialRun.{left_by_step}
@@ -33,13 +32,13 @@ is_answer (history.Answer id answer) = true
 is_answer (history.Told asker id answer) = false
 
 abbrev pub is_committed : OrderLine → Bool
-is_committed line = elim line.outcome [ | Done ↦ false | Committed ↦ true | Aborted ↦ false | Pending ↦ false ]
+is_committed line = elim line.outcome [ Done ↦ false | Committed ↦ true | Aborted ↦ false | Pending ↦ false ]
 
 abbrev pub is_aborted : OrderLine → Bool
-is_aborted line = elim line.outcome [ | Done ↦ false | Committed ↦ false | Aborted ↦ true | Pending ↦ false ]
+is_aborted line = elim line.outcome [ Done ↦ false | Committed ↦ false | Aborted ↦ true | Pending ↦ false ]
 
 abbrev pub is_open : OrderLine → Bool
-is_open line = elim line.outcome [ | Done ↦ false | Committed ↦ false | Aborted ↦ false | Pending ↦ true ]
+is_open line = elim line.outcome [ Done ↦ false | Committed ↦ false | Aborted ↦ false | Pending ↦ true ]
 
 -- THE SUM of all values, modulo 2^64, of a map that gives these values
 pub record IsTotal (values : Values) (total : ℕ) : Type 0 where

@@ -12,4 +12,3 @@ pub use script::{drill_lines, drill_script};
 pub use summary::print_summary;
 pub use summing::total;
 pub use turn::Turn;
-

@@ -32,11 +32,7 @@ fn put_noon(lines: &mut Row<Line>) -> Result<(), NoMemory>
 pub(crate) fn put_noon_where(lines: &mut Row<Line>, is_noon: bool) -> Result<(), NoMemory>
     ensures { OnOk result (lines.new ≡ lines.old ++ (if is_noon then noon else [])) }
 {
-    if is_noon {
-        put_noon(lines)
-    } else {
-        Ok(())
-    }
+    if is_noon { put_noon(lines) } else { Ok(()) }
 }
 
 /// What the network does with the packets of a turn.

@@ -1,4 +1,4 @@
-use Rattle.std.proofs.Common.{◌≡◌, ◌++◌, ◌*◌, [], ap, sym, ◌∙◌, refl, List}
+use Rattle.std.proofs.Common.{◌++◌, ap, sym, ◌∙◌, List}
 use Rattle.std.proofs.lemmas.List.{append_assoc, append-nil}
 use Rattle.eris_script.specs.declared.line.Line.{Line}
 use Rattle.eris_drill.specs.Draws.{after_words, generator, turn_at, turn_from}
@@ -16,9 +16,10 @@ unfolding turn_at
 put_turn-requires c = record { drawn = c.next_turn-drawn.ensures.drawn ∙ ap turn_from (c.loop-turn.invariant).1 }
 
 pub loop-turn-preserved : goal.loop-turn-preserved
-loop-turn-preserved c =
-    (c.in_ok-put_turn.ensures
-    ∙ ap (λ (lines : List Line). lines ++ turn_lines c.args.number c.loop-turn.turn) (c.loop-turn.invariant).0
-    ∙ append_assoc c.args.lines.now _ _
-    ∙ ap (λ (lines : List Line). c.args.lines.now ++ lines) (sym (below_more (turn_lines c.args.number) c.loop-turn.turn)),
-    c.next_turn-drawn.ensures.left ∙ ap (after_words 5) (c.loop-turn.invariant).1 ∙ next_words c.loop-turn.turn (generator c.args.number))
+loop-turn-preserved c = (
+  c.in_ok-put_turn.ensures
+      ∙ ap (λ (lines : List Line). lines ++ turn_lines c.args.number c.loop-turn.turn) (c.loop-turn.invariant).0
+      ∙ append_assoc c.args.lines.now _ _
+      ∙ ap (λ (lines : List Line). c.args.lines.now ++ lines) (sym (below_more (turn_lines c.args.number) c.loop-turn.turn)),
+  c.next_turn-drawn.ensures.left ∙ ap (after_words 5) (c.loop-turn.invariant).1 ∙ next_words c.loop-turn.turn (generator c.args.number),
+)
