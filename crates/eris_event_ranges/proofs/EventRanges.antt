@@ -45,7 +45,7 @@ name_bytes before (n ∷ bytes) h =
     let parts = and_parts _ _ h in
     and_from _ _ (and_from _ _ (lt-ltb n (2 ^ 8) (name_byte n parts.0)) parts.0) (name_bytes (before ++ n ∷ []) bytes parts.1)
 
-from_to_fits : (least most n : ℕ) → most < 256 → least ≤ n → n ≤ most → (f.from_to least most).fits n ≡ true
+pub from_to_fits : (least most n : ℕ) → most < 256 → least ≤ n → n ≤ most → (f.from_to least most).fits n ≡ true
 unfolding f.from_to f.byte
 from_to_fits least most n small low high =
     and_from _ _ (lt-ltb n (2 ^ 8) (omega (arith, small, high))) (and_from _ _ (le-leb least n low) (le-leb n most high))
@@ -61,7 +61,7 @@ shard_limit : (test : Bool) (n : ℕ) → nat_le n (cond test 15 63) ≡ true �
 shard_limit true n h = omega (arith, leb-true n 15 h)
 shard_limit false n h = leb-true n 63 h
 
-shard_fits : (shard : ShardId) → shard.0 ≤ 63 → f.shard.fits shard ≡ true
+pub shard_fits : (shard : ShardId) → shard.0 ≤ 63 → f.shard.fits shard ≡ true
 unfolding f.shard
 shard_fits shard le = from_to_fits 0 63 shard.0 (omega arith) (omega arith) le
 

@@ -1,1 +1,2 @@
+pub mod AskRanges
 pub mod EventRanges

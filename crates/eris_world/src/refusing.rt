@@ -1,14 +1,14 @@
 //! Why an event is refused, whatever it would send.
-ghost use Rattle.std.specs.Prelude.{◌≡◌, ◌≢◌, false, List, Ok, Err, is_some, map};
+ghost use Rattle.std.specs.Prelude.{◌≡◌, false, List, Ok, Err, is_some, map, nat_lt};
 ghost use Rattle.std.specs.Option.{option_or};
 ghost use Rattle.eris_txn.specs.Operations.{key_of};
-ghost use Rattle.eris_base.specs.ConfigLimits.{ConfigValue};
+ghost use Rattle.std.specs.List.{list_all};
 ghost use Rattle.eris_txn.specs.declared.key.Key.{Key};
 ghost use Rattle.eris_rules.specs.Happenings.{submitted_at};
 ghost use Rattle.eris_rules.specs.Known.{knows_keys};
 ghost use Rattle.eris_rules.specs.Refusals.{abort_cause, cause, deliver_cause, delivery_cause, general_cause, is_crashed_node, names_sequencer, node_cause, noise_cause, retry_cause, submit_cause, timer_cause};
 ghost use Rattle.std.specs.Prelude.{slice_get};
-ghost use Rattle.eris_world.specs.Checking.{Tells, refusal_of};
+ghost use Rattle.eris_world.specs.Checking.{Tells, is_end, refusal_of};
 
 use crate::world::World;
 use eris_base::{ClientId, Epoch, NoMemory, Node, ReplicaId, ShardId, TxnId};
@@ -28,6 +28,16 @@ pub(crate) fn refusal_of(fault: SendFault) -> Refusal
         SendFault::Bytes => Refusal::Bytes,
         SendFault::NoMemory => Refusal::NoMemory,
     }
+}
+
+/// Whether a refusal is for a limit or for want of memory.
+pub(crate) fn is_end(refusal: Refusal) -> bool
+    ensures { result ≡ is_end refusal }
+{
+    matches!(
+        refusal,
+        Refusal::Packets | Refusal::Bytes | Refusal::NoMemory
+    )
 }
 
 impl World {
@@ -205,8 +215,7 @@ impl World {
     }
 
     fn check_node(&self, node: Node) -> Result<(), Refusal>
-        ensures known { Tells (node_cause self.now.config self.now.state node) result }
-        ensures memory { result ≢ Err Refusal.NoMemory }
+        ensures { Tells (node_cause self.now.config self.now.state node) result }
     {
         match node {
             Node::Sequencer | Node::Coordinator => Ok(()),
@@ -222,9 +231,8 @@ impl World {
 }
 
 /// Whether the shards of all operations are below the limit.
-#[tactic(auto, unfolding(eris_rules::specs::Known::knows_keys))]
 fn knows_ops(shards: u8, ops: &[Op]) -> bool
-    ensures { (config : ConfigValue) → config.shards ≡ shards → result ≡ knows_keys config (map key_of ops.now) }
+    ensures { result ≡ list_all (λ op. nat_lt (key_of op).shard.0 shards) ops.now }
 {
     ops.iter().all(|op| op.key().shard.0 < shards)
 }

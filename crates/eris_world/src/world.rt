@@ -1,12 +1,11 @@
-ghost use Rattle.std.specs.Prelude.{◌≡◌, ◌≢◌, false, true, is_some, length, option_map, slice_get, Some, IfOk, IfErr, OnOk};
+ghost use Rattle.std.specs.Prelude.{◌≡◌, false, true, is_some, length, option_map, slice_get, Some, IfOk, IfErr, OnOk};
 ghost use Rattle.eris_network.specs.Networks.{frame_at};
-ghost use Rattle.eris_nodes.specs.ReplicaRows.{log_of};
-ghost use Rattle.eris_rules.specs.Worlds.{first_world, replica_at};
+ghost use Rattle.eris_rules.specs.Worlds.{first_world};
 ghost use Rattle.eris_world.specs.Checking.{is_end};
 ghost use Rattle.eris_rules.specs.Runs.{world_after};
 ghost use Rattle.eris_world.specs.WorldValues.{CanGoOn, EventFits, IsCause};
 
-use crate::refusing::refusal_of;
+use crate::refusing::{is_end, refusal_of};
 use eris_base::{Config, NoMemory, ReplicaId, Row, ShardId};
 use eris_coord::Coordinator;
 use eris_network::Network;
@@ -14,7 +13,7 @@ use eris_nodes::{Clients, Replicas};
 use eris_rules::Refusal;
 use eris_script::Event;
 use eris_sequencer::Sequencers;
-use eris_txn::{HistoryEvent, Packet};
+use eris_txn::HistoryEvent;
 use std::alloc::Global;
 use std::marker::Model;
 
@@ -72,14 +71,16 @@ impl World {
         let sequencers = Sequencers::new(alloc, config)?;
         let replicas = Replicas::new(alloc, config)?;
         let clients = Clients::new(alloc, config)?;
+        let coordinator = Coordinator::new(alloc, config);
+        let network = Network::new(alloc);
         Ok(World {
             alloc,
             config,
             sequencers,
-            coordinator: Coordinator::new(alloc, config),
+            coordinator,
             replicas,
             clients,
-            network: Network::new(alloc),
+            network,
             crashed: Row::new(alloc),
             history: Row::new(alloc),
             spent: false,
@@ -117,18 +118,6 @@ impl World {
         self.network.lowest().is_some()
     }
 
-    /// The settled log of a replica, and nothing where there is no such replica. It doesn't spend the world.
-    pub fn settled_log(
-        &self,
-        shard: ShardId,
-        replica: ReplicaId,
-    ) -> Result<Row<Packet>, NoMemory>
-        requires { self.now.spent ≡ false }
-        ensures { IfOk result (λ log. log ≡ log_of (replica_at self.now.state.replicas shard replica)) }
-    {
-        self.replicas.settled_log(shard, replica)
-    }
-
     /// One event, whose fields are in the ranges of a script's lines.
     ///
     /// # Errors
@@ -148,11 +137,10 @@ impl World {
     {
         match self.check(&event) {
             Ok(()) => {}
-            Err(Refusal::NoMemory) => {
-                self.spent = true;
-                return Err(Refusal::NoMemory);
+            Err(refusal) => {
+                self.spent = is_end(refusal);
+                return Err(refusal);
             }
-            Err(refusal) => return Err(refusal),
         }
         match self.happen(event) {
             Ok(()) => Ok(()),
