@@ -202,7 +202,7 @@ client_ok v old view client act states history sends told sent event waiting uns
     let noted_state : record v.state { clients = states; history = history; sent = sent; waiting = waiting } ≡ record v.state { clients = states; history = with_event v.state.history event; sent = sent; waiting = waiting } =
     ap (λ (z : List HistoryEvent). record v.state { clients = states; history = z; sent = sent; waiting = waiting }) noted in
     let made = noted_state ∙ sent_then (record v.state { clients = states; history = with_event v.state.history event }) told sent waiting e h
-      ∙ clients_take v.config v.state client act (record { states = states; sends = told; event = event }) stepped in
+    ∙ clients_take v.config v.state client act (record { states = states; sends = told; event = event }) stepped in
     let new : WorldValue = record { config = v.config; state = record v.state { clients = states; history = history; sent = sent; waiting = waiting }; spent = false } in
     subst (λ (z : WorldValue). Becomes z new (client_acts z.config z.state client act)) view
     (becomes v (record v.state { clients = states; history = history; sent = sent; waiting = waiting }) (client_acts v.config v.state client act) (spent_too v old view unspent) made (ap limit_met e ∙ room))

@@ -86,6 +86,7 @@ impl World {
         self.spent = true;
         // Its contract tells what the sequencers keep.
         let _newest = self.sequencers.newest();
+        let _shards = self.config.shards();
         let sends = match self.sequencers.ask(epoch, message) {
             Ok(sends) => sends,
             Err(NoMemory) => return Err(SendFault::NoMemory),

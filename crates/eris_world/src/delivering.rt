@@ -3,7 +3,7 @@ ghost use Rattle.std.specs.Prelude.{◌≡◌, ◌<◌, ◌++◌, ◌∷◌, ◌
 ghost use Rattle.eris_msg.specs.Spellings.{message_fits};
 ghost use Rattle.eris_network.specs.Limits.{IsMetBy};
 ghost use Rattle.eris_rules.specs.Happenings.{aborts_plan, comes_to, delivers, flows, happens, loses, plan_of_transaction, submitted_at};
-ghost use Rattle.eris_rules.specs.Refusals.{cause};
+ghost use Rattle.eris_rules.specs.Refusals.{cause, limit_met};
 ghost use Rattle.eris_rules.specs.Worlds.{no_longer_waiting};
 ghost use Rattle.eris_sequencer.specs.Sequencers.{replace};
 ghost use Rattle.eris_world.specs.Becoming.{Becomes};
@@ -20,12 +20,7 @@ use eris_txn::Txn;
 
 impl World {
     /// A message comes to its node; an Ask to the sequencer of the epoch that is named, or else to the newest.
-    fn come_to(
-        &mut self,
-        epoch: Option<Epoch>,
-        to: Node,
-        message: Message,
-    ) -> Result<(), SendFault>
+    fn come_to(&mut self, epoch: Option<Epoch>, to: Node, message: Message) -> Result<(), SendFault>
         requires unspent { self.old.spent ≡ false }
         requires fits { message_fits message ≡ true }
         ensures ok { OnOk result (Becomes self.old self.new (comes_to self.old.config self.old.state epoch to message)) }
@@ -154,6 +149,14 @@ impl World {
         }
     }
 
+    /// Nobody takes bytes that are no message, and nothing is sent.
+    fn stand(&self)
+        requires { self.now.spent ≡ false }
+        ensures { limit_met self.now.state.sent ≡ None }
+    {
+        let _ = &self.network;
+    }
+
     /// What the event does.
     #[tactic(auto, unfolding(eris_rules::specs::Happenings::happens))]
     pub(crate) fn happen(&mut self, event: Event) -> Result<(), SendFault>
@@ -192,7 +195,10 @@ impl World {
             Event::Crash { shard, replica } => self.crash(shard, replica),
             Event::Nudge => self.coordinator_takes(CoordInput::Nudge),
             Event::Replace => self.replace(),
-            Event::Noise { .. } => Ok(()),
+            Event::Noise { .. } => {
+                self.stand();
+                Ok(())
+            }
         }
     }
 }

@@ -48,8 +48,14 @@ impl World {
         ensures { Tells (cause self.now.config self.now.state event.now) result }
     {
         match event {
-            Event::Submit { client, ops } => self.check_submit(*client, self.knows_ops(ops.as_slice())),
-            Event::General { client, plan } => self.check_submit(*client, self.knows_keys(plan.keys())),
+            Event::Submit { client, ops } => self.check_submit(
+                *client,
+                self.knows_ops(ops.as_slice()),
+            ),
+            Event::General { client, plan } => self.check_submit(
+                *client,
+                self.knows_keys(plan.keys()),
+            ),
             Event::Retry { client, number } => self.check_retry(*client, *number),
             Event::Abort { asker, id } => self.check_abort(*asker, *id),
             Event::Deliver { packet, epoch } => self.check_deliver(*packet, *epoch),
