@@ -75,10 +75,10 @@ replicas_step-at config rows shard replica row next sends input h lt e step =
     let is : IsRow config shard.0 row = row_at config rows shard.0 row h lt e in
     let found : slice_get (rows_of rows) shard.0 ≡ Some row.states =
     slice_get-map (λ (row : MembersValue). row.states) rows shard.0 ∙ ap (λ (o : Option MembersValue). option_map (λ (row : MembersValue). row.states) o) (slice_get-get_or rows shard.0 row lt)
-      ∙ ap (λ (z : MembersValue). Some z.states) (sym e) in
+    ∙ ap (λ (z : MembersValue). Some z.states) (sym e) in
     let made : ◌≡◌ {A = MembersOut} (record { states = next.states; sends = sends }) (one_steps (identity config shard replica.0) row.states input (slice_get row.states replica.0)) =
     step ∙ ap (λ (z : ConfigValue). one_steps (identity z row.shard replica.0) row.states input (slice_get row.states replica.0)) is.system
-      ∙ ap (λ (z : ShardId). one_steps (identity config z replica.0) row.states input (slice_get row.states replica.0)) is.shard in
+    ∙ ap (λ (z : ShardId). one_steps (identity config z replica.0) row.states input (slice_get row.states replica.0)) is.shard in
     ap (λ (z : List (List ReplicaState)). let out : ReplicasOut = record { rows = z; sends = sends } in out) (rows_of-set rows shard.0 next)
     ∙ in_shard config (rows_of rows) shard replica input row.states next.states sends (slice_get row.states replica.0) found made
     ∙ ap (λ (o : Option (List ReplicaState)). one_of_all_steps config (rows_of rows) shard replica input (in_row o replica.0)) (sym found)

@@ -5,12 +5,14 @@ ghost use Rattle.eris_replica.specs.ReplicaValues.{InputFits};
 ghost use Rattle.eris_rules.specs.Known.{knows_shard};
 ghost use Rattle.eris_rules.specs.WorldOrders.{is_held_by};
 ghost use Rattle.eris_rules.specs.Worlds.{first_replicas};
+ghost use Rattle.eris_nodes.specs.ReplicaRows.{log_of};
 ghost use Rattle.eris_nodes.specs.MemberRows.{AreMembers, identity, members_step, states_of};
 
 use eris_base::{Config, NoMemory, ReplicaId, Row, ShardId};
 use eris_msg::Outgoing;
 use eris_replica::Replica;
 use eris_rules::ReplicaInput;
+use eris_txn::Packet;
 use std::alloc::Global;
 use std::marker::Model;
 
@@ -75,6 +77,18 @@ impl Members {
         let sends = member.step(input)?;
         self.spent = false;
         Ok(sends)
+    }
+
+    /// The settled log of the replica of this number; nothing where there is none.
+    pub fn settled_log(&self, replica: ReplicaId) -> Result<Row<Packet>, NoMemory>
+        ensures { IfOk result (λ log. log ≡ log_of (slice_get self.now.states replica.0)) }
+    {
+        let at = replica.0 as usize;
+        if at >= self.members.len() {
+            return Ok(Row::new(self.alloc));
+        }
+        let member = &self.members[at];
+        member.settled_log()
     }
 }
 

@@ -1,12 +1,14 @@
 ghost use Rattle.std.specs.Prelude.{◌≡◌, false, true, IfOk, OnErr, OnOk};
 ghost use Rattle.eris_in_place.specs.MessageRanges.{SendsFit};
 ghost use Rattle.eris_replica.specs.ReplicaValues.{InputFits};
-ghost use Rattle.eris_nodes.specs.ReplicaRows.{AreRows, first_rows, replicas_step, rows_of};
+ghost use Rattle.eris_nodes.specs.ReplicaRows.{AreRows, first_rows, log_of, replicas_step, rows_of};
+ghost use Rattle.eris_rules.specs.Worlds.{replica_at};
 
 use crate::members::{Members, leave};
 use eris_base::{Config, NoMemory, ReplicaId, Row, ShardId};
 use eris_msg::Outgoing;
 use eris_rules::ReplicaInput;
+use eris_txn::Packet;
 use std::alloc::Global;
 use std::marker::Model;
 
@@ -70,6 +72,18 @@ impl Replicas {
         let sends = row.step(replica, input)?;
         self.spent = false;
         Ok(sends)
+    }
+
+    /// The settled log of a replica; nothing where there is no such replica.
+    pub fn settled_log(&self, shard: ShardId, replica: ReplicaId) -> Result<Row<Packet>, NoMemory>
+        ensures { IfOk result (λ log. log ≡ log_of (replica_at self.now.rows shard replica)) }
+    {
+        let at = shard.0 as usize;
+        if at >= self.rows.len() {
+            return Ok(Row::new(self.alloc));
+        }
+        let row = &self.rows[at];
+        row.settled_log(replica)
     }
 }
 

@@ -38,7 +38,7 @@ invariant_of-self-2 c =
     let within : c.args.client.0 < length c.self.inside.clients.items = omega (arith, c.if-at-len.false, c.len.ensures) in
     let one = client_at-is c.self.inside.config c.self.inside.clients.items c.args.client.0 c.index_mut-one.result.now (c.self.invariant unspent) within c.index_mut-one.ensures.value in
     λ _. clients_set c.self.inside.config c.self.inside.clients.items (c.self.invariant unspent) c.args.client.0 c.perform.new.one
-      (is_client_after c.self.inside.config c.args.client.0 c.index_mut-one.result.now c.perform.new.one one c.in_ok-told.ensures.stays)
+    (is_client_after c.self.inside.config c.args.client.0 c.index_mut-one.result.now c.perform.new.one one c.in_ok-told.ensures.stays)
 
 pub returns-clause-ok : goal.returns-clause-ok
 returns-clause-ok c =
@@ -47,4 +47,4 @@ returns-clause-ok c =
     let new : ClientsOut = record { states = states_of (slice_set c.self.inside.clients.items c.args.client.0 c.perform.new.one); sends = c.in_ok-told.told.0; event = c.in_ok-told.told.1 } in
     subst (λ (v : ClientsValue). new ≡ clients_act v.config v.states c.args.client (acts c.args.act)) c.self.view_is
     (clients_act-at c.self.inside.config c.self.inside.clients.items c.args.client c.index_mut-one.result.now c.perform.new.one c.in_ok-told.told.0 c.in_ok-told.told.1 (acts c.args.act)
-      (c.self.invariant unspent) within c.index_mut-one.ensures.value c.in_ok-told.ensures.ok)
+    (c.self.invariant unspent) within c.index_mut-one.ensures.value c.in_ok-told.ensures.ok)

@@ -19,4 +19,4 @@ returns c =
     let within : c.args.id.client.0 < length c.self.inside.clients.items = omega (arith, c.if-at-len.false, c.len.ensures) in
     c.has_submitted.ensures ∙ ap (λ (o : Option Transaction). is_some o)
     (transaction_in-at c.self.inside.config c.self.inside.clients.items c.args.id c.index-one.result.now (c.self.invariant unspent) within c.index-one.ensures
-      ∙ ap (λ (v : ClientsValue). transaction_in v.states c.args.id) c.self.view_is)
+    ∙ ap (λ (v : ClientsValue). transaction_in v.states c.args.id) c.self.view_is)

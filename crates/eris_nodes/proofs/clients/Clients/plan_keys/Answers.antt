@@ -28,7 +28,7 @@ returns-clause-exact c =
     let unspent : c.self.inside.spent ≡ false = ap (λ (v : ClientsValue). v.spent) c.self.view_is ∙ c.requires in
     let within : c.args.id.client.0 < length c.self.inside.clients.items = omega (arith, c.if-at-len.false, c.len.ensures) in
     let same = transaction_in-at c.self.inside.config c.self.inside.clients.items c.args.id c.index-one.result.now (c.self.invariant unspent) within c.index-one.ensures
-      ∙ ap (λ (v : ClientsValue). transaction_in v.states c.args.id) c.self.view_is in
+    ∙ ap (λ (v : ClientsValue). transaction_in v.states c.args.id) c.self.view_is in
     IfOk-weaker c.keys_of.result _ _ (λ found e. e ∙ ap (λ (o : Option Transaction). keys_in (plan_of_transaction o)) same) c.keys_of.ensures.exact
 
 pub returns-clause-fits : goal.returns-clause-fits

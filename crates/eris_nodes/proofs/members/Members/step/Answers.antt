@@ -25,7 +25,7 @@ invariant_of-self-2 c =
     let within : c.args.replica.0 < length c.self.inside.members.items = omega (arith, c.if-at-len.false, c.len.ensures) in
     let one = member_at c.self.inside.config c.self.inside.shard c.self.inside.members.items c.args.replica.0 c.index_mut-member.result.now (c.self.invariant unspent) within c.index_mut-member.ensures.value in
     λ _. members_set c.self.inside.config c.self.inside.shard c.self.inside.members.items (c.self.invariant unspent) c.args.replica.0 c.step.new.self
-      (is_member_after c.self.inside.config c.self.inside.shard c.args.replica.0 c.index_mut-member.result.now c.step.new.self one c.in_ok-sends.ensures.stays)
+    (is_member_after c.self.inside.config c.self.inside.shard c.args.replica.0 c.index_mut-member.result.now c.step.new.self one c.in_ok-sends.ensures.stays)
 
 pub returns-clause-ok : goal.returns-clause-ok
 returns-clause-ok c =
@@ -34,4 +34,4 @@ returns-clause-ok c =
     let new : MembersOut = record { states = states_of (slice_set c.self.inside.members.items c.args.replica.0 c.step.new.self); sends = c.in_ok-sends.sends } in
     subst (λ (v : MembersValue). new ≡ members_step (identity v.config v.shard c.args.replica.0) v.states c.args.input) c.self.view_is
     (members_step-at c.self.inside.config c.self.inside.shard c.self.inside.members.items c.args.replica.0 c.index_mut-member.result.now c.step.new.self c.in_ok-sends.sends c.args.input
-      (c.self.invariant unspent) within c.index_mut-member.ensures.value c.in_ok-sends.ensures.ok)
+    (c.self.invariant unspent) within c.index_mut-member.ensures.value c.in_ok-sends.ensures.ok)

@@ -25,7 +25,7 @@ invariant_of-self-2 c =
     let within : c.args.shard.0 < length c.self.inside.rows.items = omega (arith, c.if-at-len.false, c.len.ensures) in
     let row = row_at c.self.inside.config c.self.inside.rows.items c.args.shard.0 c.index_mut-row.result.now (c.self.invariant unspent) within c.index_mut-row.ensures.value in
     λ _. rows_set c.self.inside.config c.self.inside.rows.items (c.self.invariant unspent) c.args.shard.0 c.step.new.self
-      (is_row_after c.self.inside.config c.args.shard.0 c.index_mut-row.result.now c.step.new.self row c.in_ok-sends.ensures.stays)
+    (is_row_after c.self.inside.config c.args.shard.0 c.index_mut-row.result.now c.step.new.self row c.in_ok-sends.ensures.stays)
 
 pub returns-clause-ok : goal.returns-clause-ok
 returns-clause-ok c =
@@ -34,4 +34,4 @@ returns-clause-ok c =
     let new : ReplicasOut = record { rows = rows_of (slice_set c.self.inside.rows.items c.args.shard.0 c.step.new.self); sends = c.in_ok-sends.sends } in
     subst (λ (v : ReplicasValue). new ≡ replicas_step v.config v.rows c.args.shard c.args.replica c.args.input) c.self.view_is
     (replicas_step-at c.self.inside.config c.self.inside.rows.items c.args.shard c.args.replica c.index_mut-row.result.now c.step.new.self c.in_ok-sends.sends c.args.input
-      (c.self.invariant unspent) within c.index_mut-row.ensures.value c.in_ok-sends.ensures.ok)
+    (c.self.invariant unspent) within c.index_mut-row.ensures.value c.in_ok-sends.ensures.ok)
