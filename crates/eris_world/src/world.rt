@@ -1,6 +1,7 @@
 ghost use Rattle.std.specs.Prelude.{◌≡◌, false, true, is_some, length, option_map, slice_get, Some, IfOk, IfErr, OnOk};
 ghost use Rattle.eris_network.specs.Networks.{frame_at};
-ghost use Rattle.eris_rules.specs.Worlds.{first_world};
+ghost use Rattle.eris_nodes.specs.ReplicaRows.{log_of};
+ghost use Rattle.eris_rules.specs.Worlds.{first_world, replica_at};
 ghost use Rattle.eris_world.specs.Checking.{is_end};
 ghost use Rattle.eris_rules.specs.Runs.{world_after};
 ghost use Rattle.eris_world.specs.WorldValues.{CanGoOn, EventFits, IsCause};
@@ -13,7 +14,7 @@ use eris_nodes::{Clients, Replicas};
 use eris_rules::Refusal;
 use eris_script::Event;
 use eris_sequencer::Sequencers;
-use eris_txn::HistoryEvent;
+use eris_txn::{HistoryEvent, Packet};
 use std::alloc::Global;
 use std::marker::Model;
 
@@ -108,6 +109,14 @@ impl World {
         ensures { option_map (λ bytes. bytes.now) result ≡ frame_at self.now.state.sent number }
     {
         self.network.packet(number)
+    }
+
+    /// The settled log of a replica, be it crashed or not; nothing where there is no such replica.
+    pub fn settled_log(&self, shard: ShardId, replica: ReplicaId) -> Result<Row<Packet>, NoMemory>
+        requires { self.now.spent ≡ false }
+        ensures { IfOk result (λ log. log ≡ log_of (replica_at self.now.state.replicas shard replica)) }
+    {
+        self.replicas.settled_log(shard, replica)
     }
 
     /// Whether a packet waits, so that a flow would deliver it. It takes no memory.
