@@ -9,6 +9,8 @@ mod run;
 mod script_run;
 mod status;
 mod telling;
+#[cfg(test)]
+mod tests;
 mod texts;
 
 pub use refused::{Limit, Refused, Why};
