@@ -13,6 +13,10 @@ mod telling;
 mod tests;
 mod texts;
 
-pub use refused::{Limit, Refused, Why};
+pub use due::{Due, refuse_line};
+pub use failure::Failure;
+pub use refused::{Limit, Refused, Stop, Why};
 pub use run::run_script;
+pub use script_run::run_bytes;
 pub use status::Status;
+pub use telling::tell;
