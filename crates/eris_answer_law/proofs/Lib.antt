@@ -1,0 +1,2 @@
+pub mod AnswerRanges
+pub mod FieldTests

@@ -1,0 +1,8 @@
+pub mod ItemByItem
+pub mod Entries
+pub mod Fits
+pub mod ItemShards
+pub mod ClientKinds
+pub mod KnownKeys
+pub mod SameStamps
+pub mod Taken

@@ -1,0 +1,9 @@
+use Rattle.std.proofs.Common.{◌≡◌, ◌++◌, [], drop, take}
+use Rattle.eris_rules.specs.Clients.{answer_of_shard, values_in}
+use Rattle.eris_client.specs.Assembled.{assembled}
+use Rattle.eris_client.proofs.assembling.all_values.Given as goal
+
+abbrev pub invariant-loop-at : goal.invariant-loop-at
+invariant-loop-at l =
+    l.made ++ assembled (take l.at l.shards) (drop l.at l.shards) (λ shard. values_in (answer_of_shard l.counted shard))
+    ≡ assembled [] l.shards (λ shard. values_in (answer_of_shard l.counted shard))

@@ -1,0 +1,4 @@
+pub mod Assembled
+pub mod ClientRanges
+pub mod ClientValues
+pub mod Halves

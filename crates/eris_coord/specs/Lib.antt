@@ -1,0 +1,2 @@
+pub mod CoordinatorValues
+pub mod Fitting

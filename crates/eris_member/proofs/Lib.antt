@@ -1,0 +1,4 @@
+pub mod Following
+pub mod Kept
+pub mod Others
+pub mod Told

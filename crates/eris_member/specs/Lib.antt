@@ -1,0 +1,3 @@
+pub mod LateSends
+pub mod MemberInputs
+pub mod MemberValues

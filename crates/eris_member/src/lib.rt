@@ -1,0 +1,18 @@
+//! A replica within one epoch: its state, and the rows of the rules by which it steps.
+#![tactic(auto)]
+
+mod input;
+mod late;
+mod logs;
+mod member;
+mod packets;
+mod probing;
+mod sends;
+mod settling;
+mod showing;
+mod speaking;
+mod steps;
+mod views;
+
+pub use input::MemberInput;
+pub use member::EpochMember;

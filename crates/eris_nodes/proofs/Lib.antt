@@ -1,0 +1,3 @@
+mod ClientLaws
+mod MemberLaws
+mod ReplicaLaws
