@@ -9,7 +9,8 @@ use Rattle.eris_base.specs.declared.ids.Place.{Place}
 use Rattle.eris_base.specs.declared.ids.ShardId.{ShardId}
 use Rattle.eris_txn.specs.declared.packet.Packet.{Packet}
 use Rattle.eris_log.specs.PartValues.{PartValue}
-use Rattle.eris_in_place.specs.MessageRanges.{MessageFits, PartFits, PacketsFit}
+use Rattle.eris_in_place.specs.MessageRanges.{MessageFits, IsCounted}
+use Rattle.eris_in_place.proofs.MessageRangeLaws.{counted_message_fits}
 use Rattle.eris_msg.specs.declared.message.Message.{Message}
 use Rattle.eris_msg.specs.declared.message.Message.TheVariants as kinds
 use Rattle.eris_msg.specs.Codecs.{◌⊗◌, items_fit}
@@ -25,22 +26,6 @@ use Rattle.eris_network.specs.Counted.{is_short, is_part_counted, is_counted}
 use Rattle.eris_network.specs.Limits.{byte_limit}
 
 -- ---- what is counted fits
-word_fits : (n : ℕ) → is_short n ≡ true → f.word.fits n ≡ true
-unfolding f.word
-word_fits n h = h
-
-packet_items : (before packets : List Packet) → PacketsFit packets → items_fit (λ _. f.packet) before packets ≡ true
-packet_items before [] h = refl
-packet_items before (packet ∷ packets) h = and_from _ _ h.0 (packet_items (before ++ packet ∷ []) packets h.1)
-
-packets_counted : (packets : List Packet) → PacketsFit packets → is_short (length packets) ≡ true → f.packets.fits packets ≡ true
-unfolding f.packets
-packets_counted packets h short = and_from _ _ (word_fits (length packets) short) (packet_items [] packets h)
-
-places_counted : (pairs : List (ShardId × ℕ)) → items_fit p.listed_place [] pairs ≡ true → is_short (length pairs) ≡ true → p.places.fits pairs ≡ true
-unfolding p.places
-places_counted pairs h short = and_from _ _ (word_fits (length pairs) short) h
-
 part_counted : (part : PartValue) → is_part_counted part ≡ true → PartCounted part
 part_counted part h =
     let front = and_parts _ _ h in
@@ -53,34 +38,30 @@ part_counted part h =
       perm = ltb-true _ _ front.1;
     }
 
-part_fits_whole : (part : PartValue) → PartFits part → is_part_counted part ≡ true → p.part.fits part ≡ true
-part_fits_whole part h short = part_fits-from part h.is h.ranges (part_counted part short)
+counted_right : (message : Message) → is_counted message ≡ true → IsCounted message
+counted_right (kinds.ViewChange r v part) h = part_counted part h
+counted_right (kinds.StartView v part) h = part_counted part h
+counted_right (kinds.EpochState r e part) h = part_counted part h
+counted_right (kinds.Settled e v n places) h = ltb-true _ _ h
+counted_right (kinds.StartEpoch e s packets) h = ltb-true _ _ h
+counted_right (kinds.Ask a i b) h = tt
+counted_right (kinds.Txn k) h = tt
+counted_right (kinds.Vouch v s r t i ph) h = tt
+counted_right (kinds.Reply v s r t i ph w) h = tt
+counted_right (kinds.Late s r i ph w) h = tt
+counted_right (kinds.Find r q) h = tt
+counted_right (kinds.Request q) h = tt
+counted_right (kinds.Has k) h = tt
+counted_right (kinds.TempDropped q s r v) h = tt
+counted_right (kinds.Found k) h = tt
+counted_right (kinds.Dropped q) h = tt
+counted_right (kinds.SyncAsk e v) h = tt
+counted_right (kinds.Ack r e v n) h = tt
+counted_right (kinds.NewEpoch s r e) h = tt
+counted_right (kinds.EpochAsk e) h = tt
 
 pub fits_whole : (message : Message) → MessageFits message → is_counted message ≡ true → message_fits message ≡ true
-fits_whole (kinds.ViewChange r v part) h short =
-    fits.view_change_fits r v part ∙ and_from _ _ h.0 (and_from _ _ h.1 (part_fits_whole part h.2 short))
-fits_whole (kinds.StartView v part) h short = fits.start_view_fits v part ∙ and_from _ _ h.0 (part_fits_whole part h.1 short)
-fits_whole (kinds.EpochState r e part) h short =
-    fits.epoch_state_fits r e part ∙ and_from _ _ h.0 (and_from _ _ h.1 (part_fits_whole part h.2 short))
-fits_whole (kinds.Settled e v n places) h short =
-    fits.settled_fits e v n places ∙ and_from _ _ h.0 (and_from _ _ h.1 (and_from _ _ h.2 (places_counted places h.3 short)))
-fits_whole (kinds.StartEpoch e s packets) h short =
-    fits.start_epoch_fits e s packets ∙ and_from _ _ h.0 (and_from _ _ h.1 (packets_counted packets h.2 short))
-fits_whole (kinds.Ask a i b) h short = h
-fits_whole (kinds.Txn k) h short = h
-fits_whole (kinds.Vouch v s r t i ph) h short = h
-fits_whole (kinds.Reply v s r t i ph w) h short = h
-fits_whole (kinds.Late s r i ph w) h short = h
-fits_whole (kinds.Find r q) h short = h
-fits_whole (kinds.Request q) h short = h
-fits_whole (kinds.Has k) h short = h
-fits_whole (kinds.TempDropped q s r v) h short = h
-fits_whole (kinds.Found k) h short = h
-fits_whole (kinds.Dropped q) h short = h
-fits_whole (kinds.SyncAsk e v) h short = h
-fits_whole (kinds.Ack r e v n) h short = h
-fits_whole (kinds.NewEpoch s r e) h short = h
-fits_whole (kinds.EpochAsk e) h short = h
+fits_whole message h short = counted_message_fits message h (counted_right message short)
 
 -- ---- what isn't counted is long: each item has a byte at least
 items_long : {X : Type 0} (spell : X → List ℕ) (some : (x : X) → 1 ≤ length (spell x)) (xs : List X) → length xs ≤ length (flat_map spell xs)

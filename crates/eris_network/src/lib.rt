@@ -11,3 +11,6 @@ mod waiting;
 
 pub use network::Network;
 pub use send_fault::SendFault;
+
+#[cfg(test)]
+mod tests;

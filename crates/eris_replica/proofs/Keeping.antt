@@ -1,19 +1,19 @@
 -- A replica stays in the messages' ranges from its start on; used for its invariant and for what it sends.
-use Rattle.std.proofs.Common.{◌≡◌, ◌<◌, ◌≤◌, ◌+◌, ◌*◌, ℕ, Bool, true, false, ◌&&◌, nat_le, List, refl, ap, sym, subst, arith}
+use Rattle.std.proofs.Common.{◌≡◌, ◌≤◌, ◌+◌, ◌*◌, true, List, sym, subst, arith}
 use Rattle.std.proofs.lemmas.Bool.{and_from, le-leb, lt-ltb, ltb-true}
 use Rattle.eris_base.specs.declared.ids.ReplicaId.{ReplicaId}
 use Rattle.eris_base.specs.declared.ids.ShardId.{ShardId}
 use Rattle.eris_base.specs.ConfigLimits.{ConfigValue, IsConfig}
-use Rattle.eris_in_place.specs.MessageRanges.{MessageFits, SendsFit}
+use Rattle.eris_in_place.specs.MessageRanges.{SendsFit}
 use Rattle.eris_in_place.proofs.MessageRangeLaws.{message_is_in_range}
 use Rattle.eris_msg.specs.declared.outgoing.Outgoing.{Outgoing}
 use Rattle.eris_msg.specs.Fields as f
 use Rattle.eris_msg.proofs.FieldLaws.{tag_is}
-use Rattle.eris_range_law.specs.Fitting.{ReplicaFits, ReplicaInputFits, ReplicaStepFits}
+use Rattle.eris_range_law.specs.Fitting.{ReplicaFits, ReplicaInputFits}
 use Rattle.eris_range_law.proofs.EpochRanges.{first_state_fits, replica_step_fits}
 use Rattle.eris_rules.specs.declared.replica_input.ReplicaInput.{ReplicaInput}
 use Rattle.eris_rules.specs.Known.{knows_shard, knows_replica}
-use Rattle.eris_rules.specs.ReplicaStates.{Identity, ReplicaState, ReplicaOut, first_state}
+use Rattle.eris_rules.specs.ReplicaStates.{first_state}
 use Rattle.eris_rules.specs.Replicas.{replica_step}
 use Rattle.eris_replica.specs.ReplicaValues.{EpochsValue, InputFits, after}
 

@@ -1,5 +1,5 @@
 -- What a run refuses is the first line that is refused. Used where a refused script is told.
-use Rattle.std.proofs.Common.{◌≡◌, inl, inr, ℕ, ◌+◌, Option, Some, None, Result, Ok, Err, List, [], ◌∷◌, ◌++◌, length, ap, sym, ◌∙◌, refl, subst, arith}
+use Rattle.std.proofs.Common.{◌≡◌, inl, inr, ℕ, ◌+◌, Option, Some, None, Result, Ok, Err, IfErr, List, [], ◌∷◌, ◌++◌, length, ap, sym, ◌∙◌, refl, subst, arith}
 use Rattle.eris_base.specs.ConfigLimits.{ConfigValue}
 use Rattle.eris_script.specs.declared.event.Event.{Event}
 use Rattle.eris_script.specs.declared.header.Header.{Header}
@@ -16,9 +16,12 @@ use Rattle.eris_rules.specs.Refusals.{refusal}
 use Rattle.eris_rules.specs.Runs.{run}
 use Rattle.eris_rules.specs.Worlds.{WorldState, first_world}
 use Rattle.eris_run.specs.declared.refused.Refused.{Refused}
+use Rattle.eris_run.specs.declared.refused.Stop.{Stop}
+use Rattle.eris_run.specs.declared.refused.Stop.TheVariants as stops
 use Rattle.eris_run.specs.declared.refused.Why.{Why}
 use Rattle.eris_run.specs.declared.refused.Why.TheVariants as whys
 use Rattle.eris_run.specs.FirstRefused.{IsFirstRefused, RefusesBehind, RefusesEvent, RefusesHeader, RefusesText, first_of}
+use Rattle.eris_run.specs.LineRuns.{IfRefused}
 use Rattle.eris_run.specs.ScriptRuns.{Ran, after_event, after_events, after_header, after_line, after_lines, after_read, after_said, after_text, outcome, ran_in, told, unless, why_of}
 use Rattle.eris_run.proofs.EventRuns.{after_append}
 use Rattle.eris_run.proofs.ScriptLaws.{line_taken, ran_is}
@@ -218,3 +221,12 @@ of_texts bytes (first ∷ texts) refused cut found = of_header (header_of first)
 pub first_refused : (bytes : List ℕ) (refused : Refused) → outcome bytes ≡ Err refused → IsFirstRefused bytes refused.line refused.why
 unfolding outcome
 first_refused bytes refused found = of_texts bytes (lines bytes) refused refl found
+
+first_at_stop : (bytes : List ℕ) (stop : Stop) → IfRefused stop (λ refused. outcome bytes ≡ Err refused) → IfRefused stop (λ refused. IsFirstRefused bytes refused.line refused.why)
+first_at_stop bytes (stops.Refused refused) found = first_refused bytes refused found
+first_at_stop bytes stops.NoMemory found = tt
+
+pub first_at_end : {X : Type 0} (bytes : List ℕ) (result : Result X Stop) → IfErr result (λ stop. IfRefused stop (λ refused. outcome bytes ≡ Err refused))
+    → IfErr result (λ stop. IfRefused stop (λ refused. IsFirstRefused bytes refused.line refused.why))
+first_at_end bytes (Ok world) found = tt
+first_at_end bytes (Err stop) found = first_at_stop bytes stop found

@@ -15,8 +15,10 @@ use Rattle.eris_rules.specs.Happenings.{happens}
 use Rattle.eris_rules.specs.Refusals.{refusal}
 use Rattle.eris_rules.specs.Runs.{run, run_from, taken_by, world_after}
 use Rattle.eris_rules.specs.Worlds.{WorldState, first_world}
+use Rattle.eris_world.specs.WorldValues.{WorldValue}
 use Rattle.eris_run.specs.declared.refused.Refused.{Refused}
 use Rattle.eris_run.specs.declared.refused.Why.{Why}
+use Rattle.eris_run.specs.LineRuns.{IsAfterScript, IsWorldOf}
 use Rattle.eris_run.specs.ScriptRuns.{Ran, after_event, after_events, after_header, after_line, after_lines, after_read, after_said, after_text, outcome, ran_in, told, unless}
 use Rattle.eris_run.proofs.EventRuns.{after_append}
 
@@ -127,6 +129,11 @@ text_taken (first ∷ texts) ran took = of_header (header_of first) refl took
 pub script_taken : (bytes : List ℕ) (ran : Ran) → outcome bytes ≡ Ok ran → ScriptTaken bytes ran
 unfolding outcome script
 script_taken bytes ran took = let t = text_taken (lines bytes) ran took in record { whole = t.0; is_script = t.1; config = t.2; runs = t.3 }
+
+pub world_of : (bytes : List ℕ) (world : WorldValue) → IsAfterScript bytes world → IsWorldOf bytes world
+world_of bytes world after =
+    let t = script_taken bytes (record { config = world.config; world = world.state }) after.ran in
+    record { whole = t.whole; is_script = t.is_script; config = t.config; ran = t.runs; unspent = after.unspent }
 
 -- ---- a refused line has a number
 lines_above : (version : ℕ) (config : ConfigValue) (number : ℕ) (w : WorldState) (texts : List (List ℕ)) (refused : Refused) → 0 < number → after_lines version config number w texts ≡ Err refused → 0 < refused.line

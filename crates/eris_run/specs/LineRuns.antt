@@ -1,15 +1,17 @@
 -- How the lines of a script take a world on.
-use Rattle.std.specs.Prelude.{◌≡◌, ℕ, ◌+◌, ◌≤◌, ⊤, false, None, List, [], ◌∷◌, length, Ok, Err}
+use Rattle.std.specs.Prelude.{◌≡◌, ℕ, ◌+◌, ◌≤◌, ⊤, false, None, Some, List, [], ◌∷◌, length, Ok, Err}
 use Rattle.eris_base.specs.ConfigLimits.{ConfigValue}
 use Rattle.eris_script.specs.declared.event.Event.{Event}
 use Rattle.eris_script.specs.declared.event.Event.TheVariants as event
 use Rattle.eris_script.specs.declared.line.Line.{Line}
 use Rattle.eris_script.specs.declared.line.Line.TheVariants as line
 use Rattle.eris_script.specs.Cuts.{lines}
+use Rattle.eris_script.specs.Scripts.{Script, script}
 use Rattle.eris_rules.specs.declared.refusal.Refusal.{Refusal}
 use Rattle.eris_rules.specs.declared.refusal.Refusal.TheVariants as refusals
 use Rattle.eris_rules.specs.ClientStates.{ClientState}
 use Rattle.eris_rules.specs.Refusals.{limit_met}
+use Rattle.eris_rules.specs.Runs.{run}
 use Rattle.eris_rules.specs.Worlds.{WorldState, first_world}
 use Rattle.eris_world.specs.WorldValues.{EventFits, WorldValue}
 use Rattle.eris_run.specs.declared.refused.Refused.{Refused}
@@ -108,4 +110,12 @@ begins config = record { config = config; state = first_world config; spent = fa
 -- the world is that after the script
 pub record IsAfterScript (text : List ℕ) (world : WorldValue) : Type 0 where
   pub ran : outcome text ≡ Ok (record { config = world.config; world = world.state })
+  pub unspent : world.spent ≡ false
+
+-- the bytes are a script, and the world is that after its events
+pub record IsWorldOf (text : List ℕ) (world : WorldValue) : Type 0 where
+  pub whole : Script
+  pub is_script : script text ≡ Ok whole
+  pub config : world.config ≡ whole.config
+  pub ran : run whole.config whole.events ≡ Some world.state
   pub unspent : world.spent ≡ false

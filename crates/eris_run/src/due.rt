@@ -18,8 +18,10 @@ const INPUT_LIMIT: usize = 4_194_304;
 
 /// The text that is due, and the status of a call that has written it.
 #[derive(Debug, Drop)]
-pub(crate) struct Due {
+pub struct Due {
+    /// How the call ends, where the whole text is written.
     pub status: Status,
+    /// What is written.
     pub text: Row<u8>,
 }
 
@@ -57,7 +59,12 @@ fn status_of(line: u32, why: Why) -> Status
     }
 }
 
-fn refuse_line(alloc: Global, refused: Refused) -> Result<Due, NoMemory>
+/// What is due for a refused line: `bad script: line L REASON` or `too large: line L WHAT`, and its status.
+///
+/// # Errors
+///
+/// [`NoMemory`] where an allocation was refused.
+pub fn refuse_line(alloc: Global, refused: Refused) -> Result<Due, NoMemory>
     ensures { IfOk result (IsRefusal refused) }
 {
     let text = refusal_text(alloc, refused)?;

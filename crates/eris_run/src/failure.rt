@@ -4,7 +4,7 @@ use eris_base::NoMemory;
 
 /// Why a call ended before its text was written.
 #[derive(Clone, Copy, Debug, PartialEq, Eq)]
-pub(crate) enum Failure {
+pub enum Failure {
     /// The stream failed.
     Fault,
     /// An allocation was refused.

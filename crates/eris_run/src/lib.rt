@@ -9,8 +9,14 @@ mod run;
 mod script_run;
 mod status;
 mod telling;
+#[cfg(test)]
+mod tests;
 mod texts;
 
-pub use refused::{Limit, Refused, Why};
+pub use due::{Due, refuse_line};
+pub use failure::Failure;
+pub use refused::{Limit, Refused, Stop, Why};
 pub use run::run_script;
+pub use script_run::run_bytes;
 pub use status::Status;
+pub use telling::tell;

@@ -46,7 +46,7 @@ pub struct Refused {
 
 /// Why a script wasn't run to its end.
 #[derive(Clone, Copy, Debug, PartialEq, Eq)]
-pub(crate) enum Stop {
+pub enum Stop {
     /// This line is refused.
     Refused(Refused),
     /// An allocation was refused.

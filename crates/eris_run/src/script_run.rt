@@ -1,6 +1,7 @@
 ghost use Rattle.std.specs.Prelude.{◌≡◌, ◌⊎◌, ◌+◌, ◌^◌, ◌<◌, ◌≤◌, Err, length, IfOk, IfErr, OnOk};
 ghost use Rattle.eris_run.specs.Calls.{input_limit};
-ghost use Rattle.eris_run.specs.LineRuns.{begun, begins, IfRefused, IsAfterScript, IsFine, RefusesOne, TakesLines};
+ghost use Rattle.eris_run.specs.FirstRefused.{IsFirstRefused};
+ghost use Rattle.eris_run.specs.LineRuns.{begun, begins, IfRefused, IsAfterScript, IsFine, IsWorldOf, RefusesOne, TakesLines};
 ghost use Rattle.eris_run.specs.ScriptRuns.{outcome};
 
 use crate::line_run::run_line;
@@ -39,8 +40,8 @@ fn run_lines(alloc: Global, version: u8, world: &mut World, text: &[u8]) -> Resu
     Ok(())
 }
 
-/// Runs a whole script, and answers the world after it.
-pub(crate) fn run_bytes(alloc: Global, text: &[u8]) -> Result<World, Stop>
+// Runs a whole script, and answers the world after it.
+fn run_text(alloc: Global, text: &[u8]) -> Result<World, Stop>
     requires { length text.now ≤ input_limit }
     ensures ok { IfOk result (IsAfterScript text.now) }
     ensures bad { IfErr result (λ stop. IfRefused stop (λ refused. outcome text.now ≡ Err refused)) }
@@ -58,4 +59,22 @@ pub(crate) fn run_bytes(alloc: Global, text: &[u8]) -> Result<World, Stop>
     let mut world = begin(alloc, header.config)?;
     run_lines(alloc, header.version, &mut world, rest)?;
     Ok(world)
+}
+
+/// Runs the bytes of a script, of version 1 or 2, from the start of a whole system, and answers the world
+/// after its last event.
+///
+/// # Errors
+///
+/// `Refused` exactly where a line is refused, by the grammar or by the world: the first that is, and why.
+/// `NoMemory` where an allocation was refused.
+#[tactic(auto, using(crate::proofs::ScriptLaws::world_of))]
+pub fn run_bytes(alloc: Global, text: &[u8]) -> Result<World, Stop>
+    requires { length text.now ≤ input_limit }
+    ensures ok { IfOk result (IsAfterScript text.now) }
+    ensures script { IfOk result (IsWorldOf text.now) }
+    ensures bad { IfErr result (λ stop. IfRefused stop (λ refused. outcome text.now ≡ Err refused)) }
+    ensures first { IfErr result (λ stop. IfRefused stop (λ refused. IsFirstRefused text.now refused.line refused.why)) }
+{
+    run_text(alloc, text)
 }

@@ -6,8 +6,13 @@ ghost use Rattle.eris_base.specs.Transfers.{TakesFront};
 use crate::failure::Failure;
 use eris_base::{Failed, Sink, write_all};
 
-// Writes a text for whose length it first makes room.
-pub(crate) fn tell<K: Sink>(snk: &mut K, text: &[u8]) -> Result<(), Failure>
+/// Writes a text, for whose length it first makes room.
+///
+/// # Errors
+///
+/// `Fault` where the sink failed, after a prefix of the text. `NoMemory` where there was no room; then
+/// nothing was written.
+pub fn tell<K: Sink>(snk: &mut K, text: &[u8]) -> Result<(), Failure>
     ensures ok { OnOk result (Appends (K.taken snk.old) (K.taken snk.new) text.now) }
     ensures fault { result ≡ Err Failure.Fault
         → Rose (K.faults snk.old) (K.faults snk.new) × TakesFront (K.taken snk.old) (K.taken snk.new) text.now }

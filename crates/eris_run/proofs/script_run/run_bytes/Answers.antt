@@ -1,8 +1,5 @@
-use Rattle.std.proofs.Common.{sym}
-use Rattle.eris_run.proofs.LineRuns.{IsFirst, without_header}
+use Rattle.eris_run.proofs.FirstRefusals.{first_at_end}
 use Rattle.eris_run.proofs.script_run.run_bytes.Goals as goal
 
-pub returns-in-Err-clause-bad : goal.returns-in-Err-clause-bad
-returns-in-Err-clause-bad c =
-    let first : IsFirst c.args.text.now c.first_line.result.0.now c.first_line.result.1.now = record { some = c.first_line.ensures.lines; none = c.first_line.ensures.none } in
-    without_header first (sym c.in-Err.ensures.exact)
+pub returns-clause-first : goal.returns-clause-first
+returns-clause-first c = first_at_end c.args.text.now c.run_text.result c.run_text.ensures.bad

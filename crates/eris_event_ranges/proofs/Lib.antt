@@ -1,0 +1,2 @@
+pub mod AskRanges
+pub mod EventRanges

@@ -1,0 +1,4 @@
+pub mod Becoming
+pub mod Checking
+pub mod WorldFacts
+pub mod WorldValues
