@@ -90,22 +90,3 @@ fn a_script_has_at_most_4194304_bytes(rt: HostRuntime) -> Result<(), Fail> {
     assert_eq!(rt; sink.taken(), b"too large: input\n".as_slice());
     Ok(())
 }
-
-// Each delivery of the Ask is stamped anew, for 16 shards of 7 replicas, so the 2341st passes the limit.
-#[test]
-fn a_run_sends_at_most_262144_packets(rt: HostRuntime) -> Result<(), Fail> {
-    let alloc = rt.alloc();
-    let mut script = row_of(
-        alloc,
-        b"eris 2 16 3 1\nsubmit 0 get 0/a ; get 1/a ; get 2/a ; get 3/a ; get 4/a ; get 5/a ; get 6/a ; get 7/a ; get 8/a ; get 9/a ; get 10/a ; get 11/a ; get 12/a ; get 13/a ; get 14/a ; get 15/a\n",
-    )?;
-    for _ in 0..2400 {
-        script.append(b"deliver 0\n")?;
-    }
-    let mut source = SureSource::new(script);
-    let mut sink = SureSink::new(alloc);
-    let answer = run_script(alloc, &mut source, &mut sink);
-    assert_eq!(rt; answer, Status::TooLarge { line: 2343 });
-    assert_eq!(rt; sink.taken(), b"too large: line 2343 Packets\n".as_slice());
-    Ok(())
-}
