@@ -16,5 +16,3 @@ mod steps;
 
 pub use coordinator::Coordinator;
 
-#[cfg(test)]
-mod tests;

@@ -8,5 +8,3 @@ mod steps;
 
 pub use replica::Replica;
 
-#[cfg(test)]
-mod tests;

@@ -1,4 +1,0 @@
-pub mod AccountKeys
-pub mod Words
-pub mod Submits
-pub mod Turns

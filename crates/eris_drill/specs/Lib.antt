@@ -1,4 +1,0 @@
-pub mod Draws
-pub mod DrillLines
-pub mod DrillText
-pub mod Summaries

@@ -1,2 +1,0 @@
-pub mod Worths
-pub mod Transfers
