@@ -33,6 +33,6 @@ headline good answers fronts reports =
       good = good reports.bytes reports.whole reports.world reports.is_script reports.ran;
       answers = λ calm. answers reports.bytes reports.whole reports.world calm reports.is_script reports.ran;
       answers_front = λ front. (let found = fronts reports.bytes reports.whole reports.world front reports.is_script reports.ran in
-        record { middle = found.0; ran = found.1; answered = found.2 });
+          record { middle = found.0; ran = found.1; answered = found.2 });
       written = reports.written;
     }

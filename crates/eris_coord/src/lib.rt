@@ -15,4 +15,3 @@ mod state;
 mod steps;
 
 pub use coordinator::Coordinator;
-

@@ -7,4 +7,3 @@ mod settled;
 mod steps;
 
 pub use replica::Replica;
-
