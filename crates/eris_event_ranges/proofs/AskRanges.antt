@@ -1,23 +1,17 @@
 -- What a sequencer sends for an Ask is in the ranges of messages: the packet has the epoch and the next numbers, which
 -- are in theirs. Used where a message comes to a sequencer.
-use Rattle.std.proofs.Common.{◌≡◌, ◌<◌, ◌≤◌, ℕ, zero, suc, ◌+◌, ◌-◌, ◌*◌, ◌^◌, ◌&&◌, ◌==◌, Bool, true, false, nat_lt, List, [], ◌∷◌, ◌++◌, length, map, get_or, Option, Some, None, refl, ap, sym, subst, ◌∙◌, arith, inl, inr}
-use Rattle.std.specs.Prelude.{slice_get}
+use Rattle.std.proofs.Common.{◌≡◌, ◌<◌, ◌≤◌, ℕ, zero, suc, ◌+◌, ◌-◌, ◌*◌, ◌^◌, ◌&&◌, true, false, nat_lt, List, [], ◌∷◌, ◌++◌, length, map, get_or, Some, None, refl, ap, sym, subst, ◌∙◌, arith, inl, inr}
 use Rattle.std.specs.List.{AllByRecursion, flat_map, list_all, range_with_len}
-use Rattle.std.proofs.lemmas.Bool.{and_parts, and_from, lt-ltb, ltb-true, eqb-true, eqb-false, or_parts, le-leb}
+use Rattle.std.proofs.lemmas.Bool.{and_parts, and_from, lt-ltb, ltb-true, eqb-true, eqb-false, or_parts}
 use Rattle.std.proofs.lemmas.Option.{get_or_from_slice_get, slice_get_within}
 use Rattle.eris_base.specs.declared.config.Config.{Config}
-use Rattle.eris_base.specs.declared.ids.ClientId.{ClientId}
 use Rattle.eris_base.specs.declared.ids.Epoch.{Epoch}
 use Rattle.eris_base.specs.declared.ids.Node.{Node}
 use Rattle.eris_base.specs.declared.ids.ShardId.{ShardId}
-use Rattle.eris_base.specs.declared.ids.TxnId.{TxnId}
-use Rattle.eris_base.specs.Each.{Each}
-use Rattle.eris_base.specs.Stamps.{StampValue}
-use Rattle.eris_txn.specs.declared.body.Body.{Body}
 use Rattle.eris_txn.specs.declared.packet.Packet.{Packet}
 use Rattle.eris_txn.specs.Bodies.{ascends_from, participants_of}
 use Rattle.eris_txn.proofs.BodyLaws.{participants-ascend}
-use Rattle.eris_in_place.specs.MessageRanges.{MessageFits, SendsFit}
+use Rattle.eris_in_place.specs.MessageRanges.{SendsFit}
 use Rattle.eris_msg.specs.declared.message.Message.{Message}
 use Rattle.eris_msg.specs.declared.message.Message.TheVariants as kinds
 use Rattle.eris_msg.specs.declared.outgoing.Outgoing.{Outgoing}
@@ -34,7 +28,7 @@ use Rattle.eris_sequencer.specs.Stamps.{counter_of, is_full, next_packet, next_p
 use Rattle.eris_sequencer.proofs.AskLaws.{IsStamped, ask-cases}
 use Rattle.eris_sequencer.proofs.SequencerLaws.{are_from-at, in_place-shards, some_shard}
 use Rattle.eris_sequencer.proofs.StampLaws.{next_places-stamp}
-use Rattle.eris_event_ranges.proofs.EventRanges.{from_to_fits, shard_fits}
+use Rattle.eris_event_ranges.proofs.EventRanges.{shard_fits}
 
 -- ---- numbers
 in_range-at : (counters : List ℕ) (at : ℕ) → list_all (λ counter. nat_lt counter (2 ^ 32)) counters ≡ true → get_or counters at 0 < 2 ^ 32
@@ -59,9 +53,10 @@ places_fit counters (shard ∷ shards) limit le h k free =
     let parts = and_parts _ _ k in
     let apart = eqb-false (get_or counters shard.0 0) (2 ^ 32 - 1) full.0 in
     let below = in_range-at counters shard.0 h in
-    let within = ltb-true shard.0 limit parts.0 in
-    ((shard_fits shard (omega (arith, within, le)), number_fits (get_or counters shard.0 0 + 1) (omega arith) (omega (arith, below, apart))),
-      places_fit counters shards limit le h parts.1 full.1)
+    let within = ltb-true shard.0 limit parts.0 in (
+      (shard_fits shard (omega (arith, within, le)), number_fits (get_or counters shard.0 0 + 1) (omega arith) (omega (arith, below, apart))),
+      places_fit counters shards limit le h parts.1 full.1,
+    )
 
 -- ---- ascending shards below a limit are few
 few_above : (before : ShardId) (shards : List ShardId) (limit : ℕ) → before.0 < limit → ascends_from (Some before) shards ≡ true → list_all (λ shard. nat_lt shard.0 limit) shards ≡ true
@@ -135,7 +130,7 @@ stamped_fits config stampings epoch message asked h le fits s =
     let more = and_parts (f.id.fits s.id) (f.body.fits s.body) asks.1 in
     let stamp = next_stamp-fits config epoch.0 s.stamping (participants_of s.body) le (omega (arith, lt, h.few)) is (in_place-shards config s.asker s.id s.body s.in_place) (participants-ascend s.body) s.free in
     let packet : packet_fits (next_packet s.stamping.sequencer s.id s.asker s.body) ≡ true = and_from (stamp_fits (next_stamp s.stamping.sequencer (participants_of s.body))) (f.id.fits s.id && (f.client.fits s.asker && f.body.fits s.body)) stamp
-      (and_from (f.id.fits s.id) (f.client.fits s.asker && f.body.fits s.body) more.0 (and_from (f.client.fits s.asker) (f.body.fits s.body) asks.0 more.1)) in
+    (and_from (f.id.fits s.id) (f.client.fits s.asker && f.body.fits s.body) more.0 (and_from (f.client.fits s.asker) (f.body.fits s.body) asks.0 more.1)) in
     subst SendsFit (sym s.sent) (sent_fits config.f (next_packet s.stamping.sequencer s.id s.asker s.body) packet)
 
 pub asks_are_in_range : (config : Config) (stampings : List Stamping) (epoch : Epoch) (message : Message) → AreStampings config stampings → config.shards ≤ 64 → message_fits message ≡ true

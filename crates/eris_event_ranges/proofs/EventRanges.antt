@@ -1,6 +1,6 @@
 -- What a line of a script submits, operations or a plan, is in the ranges of the messages that it leads to. Used where
 -- an event happens.
-use Rattle.std.proofs.Common.{◌≡◌, ◌<◌, ◌≤◌, ℕ, ◌+◌, ◌-◌, ◌^◌, ◌&&◌, ◌||◌, ◌==◌, Bool, true, false, cond, nat_lt, nat_le, List, [], ◌∷◌, ◌++◌, length, Option, Some, None, refl, ap, sym, ◌∙◌, arith}
+use Rattle.std.proofs.Common.{◌≡◌, ◌<◌, ◌≤◌, ℕ, ◌-◌, ◌^◌, ◌&&◌, ◌||◌, ◌==◌, Bool, true, false, cond, nat_lt, nat_le, List, [], ◌∷◌, ◌++◌, length, Some, None, refl, arith}
 use Rattle.std.specs.Prelude.{is_none}
 use Rattle.std.specs.List.{list_all}
 use Rattle.std.proofs.lemmas.Bool.{and_parts, and_from, leb-true, le-leb, lt-ltb, ltb-true, ltb-false, eqb-true, eqb-false, or_parts}
@@ -22,7 +22,7 @@ use Rattle.eris_txn.proofs.PlanSizes.{length-settings}
 use Rattle.eris_msg.specs.declared.fault.DecodeReason.TheVariants.{Range}
 use Rattle.eris_msg.specs.Codecs.{checked, items_fit}
 use Rattle.eris_msg.specs.Fields as f
-use Rattle.eris_client.specs.ClientRanges.{HowFits, PlanFits, SettingFits, TxnFits}
+use Rattle.eris_client.specs.ClientRanges.{HowFits, SettingFits, TxnFits}
 use Rattle.eris_script.specs.Fields as w
 use Rattle.eris_script.specs.OpForms.{are_ops, fits_op, most}
 use Rattle.eris_script.specs.PlanForms.{fits_setting, is_plan, number_of}

@@ -1,9 +1,9 @@
 -- A message whose fields are in their ranges, but for the counts of its lists: where the lists are short enough to
 -- be counted it fits whole, and where one isn't the message is longer than any that is sent. Used before a message
 -- is spelled.
-use Rattle.std.proofs.Common.{◌≡◌, ◌<◌, ◌≤◌, ℕ, suc, ◌^◌, ◌&&◌, Bool, true, false, List, [], ◌∷◌, ◌++◌, length, refl, ap, ◌∙◌, arith, ◌⊎◌, inl, inr}
+use Rattle.std.proofs.Common.{◌≡◌, ◌<◌, ◌≤◌, ℕ, suc, ◌^◌, ◌&&◌, Bool, true, false, List, [], ◌∷◌, ◌++◌, length, refl, ap, arith, ◌⊎◌, inl, inr}
 use Rattle.std.specs.List.{flat_map}
-use Rattle.std.proofs.lemmas.Bool.{and_parts, and_from, ltb-true, ltb-false}
+use Rattle.std.proofs.lemmas.Bool.{and_parts, ltb-true, ltb-false}
 use Rattle.std.proofs.lemmas.List.{length-append}
 use Rattle.eris_base.specs.declared.ids.Place.{Place}
 use Rattle.eris_base.specs.declared.ids.ShardId.{ShardId}
@@ -13,14 +13,12 @@ use Rattle.eris_in_place.specs.MessageRanges.{MessageFits, IsCounted}
 use Rattle.eris_in_place.proofs.MessageRangeLaws.{counted_message_fits}
 use Rattle.eris_msg.specs.declared.message.Message.{Message}
 use Rattle.eris_msg.specs.declared.message.Message.TheVariants as kinds
-use Rattle.eris_msg.specs.Codecs.{◌⊗◌, items_fit}
+use Rattle.eris_msg.specs.Codecs.{◌⊗◌}
 use Rattle.eris_msg.specs.Fields as f
 use Rattle.eris_msg.specs.Messages as m
 use Rattle.eris_msg.specs.Parts as p
 use Rattle.eris_msg.specs.Ranges.{PartCounted}
 use Rattle.eris_msg.specs.Spellings.{message_fits, spelling}
-use Rattle.eris_msg.proofs.MessageFits as fits
-use Rattle.eris_msg.proofs.RangeLaws.{part_fits-from}
 use Rattle.eris_rules.specs.Refusals.{frame_size}
 use Rattle.eris_network.specs.Counted.{is_short, is_part_counted, is_counted}
 use Rattle.eris_network.specs.Limits.{byte_limit}

@@ -2,7 +2,7 @@ ghost use Rattle.std.specs.Prelude.{IfOk};
 ghost use Rattle.eris_in_place.specs.MessageRanges.{SendsFit};
 
 use crate::Network;
-use eris_base::{Node, Row, Same};
+use eris_base::{Node, Row};
 use eris_msg::{Outgoing, decode};
 use std::alloc::Global;
 use std::test::Fail;
@@ -10,6 +10,11 @@ use std::test::Fail;
 /// An Ask of client 0 for its transaction 1, which puts 7 at the key `a` of shard 0.
 const ASK: [u8; 22] = [
     2, 1, 0, 0, 0, 0, 0, 1, 1, 1, 2, 0, 1, 97, 0, 0, 0, 0, 0, 0, 0, 7,
+];
+
+/// Its frame: four bytes for its length, and its bytes.
+const FRAME: [u8; 26] = [
+    0, 0, 0, 22, 2, 1, 0, 0, 0, 0, 0, 1, 1, 1, 2, 0, 1, 97, 0, 0, 0, 0, 0, 0, 0, 7,
 ];
 
 /// That Ask, to the sequencer.
@@ -31,13 +36,8 @@ fn a_sent_message_is_kept_in_its_frame(rt: HostRuntime) -> Result<(), Fail> {
     let mut network = Network::new(rt.alloc());
     network.send(ask(rt.alloc())?.as_slice())?;
     let frame = network.packet(0).ok_or("a packet")?;
-    assert_eq!(rt; frame.len(), 26);
-    assert_eq!(rt; &frame[..4], [0, 0, 0, 22].as_slice());
-    assert_eq!(rt; &frame[4..], ASK.as_slice());
+    assert_eq!(rt; frame, FRAME.as_slice());
     assert!(rt; network.packet(1).is_none());
-    assert_eq!(rt; network.addressee(0), Some(Node::Sequencer));
-    assert!(rt; network.message(0)?.same(&decode(rt.alloc(), &ASK)?));
-    assert_eq!(rt; (network.sent(), network.is_spent()), (1, false));
     Ok(())
 }
 

@@ -3,7 +3,7 @@ use Rattle.std.proofs.Common.{◌≡◌, ◌<◌, ◌≤◌, ℕ, zero, suc, ◌
 use Rattle.std.specs.Prelude.{slice_get, slice_set, option_map}
 use Rattle.std.specs.List.{range_with_len}
 use Rattle.std.proofs.lemmas.Option.{slice_get-map, slice_get-get_or, slice_get_past}
-use Rattle.std.proofs.lemmas.List.{length-map, map-append}
+use Rattle.std.proofs.lemmas.List.{map-append}
 use Rattle.std.proofs.lemmas.List.FromFn.{map-range_with_len_more}
 use Rattle.eris_base.specs.declared.ids.ReplicaId.{ReplicaId}
 use Rattle.eris_base.specs.declared.ids.ShardId.{ShardId}
@@ -11,7 +11,7 @@ use Rattle.eris_base.specs.ConfigLimits.{ConfigValue}
 use Rattle.eris_msg.specs.declared.outgoing.Outgoing.{Outgoing}
 use Rattle.eris_rules.specs.declared.replica_input.ReplicaInput.{ReplicaInput}
 use Rattle.eris_rules.specs.Replicas.{replica_step}
-use Rattle.eris_rules.specs.ReplicaStates.{Identity, ReplicaState, ReplicaOut}
+use Rattle.eris_rules.specs.ReplicaStates.{ReplicaState, ReplicaOut}
 use Rattle.eris_rules.specs.Worlds.{first_replicas, in_row, replica_at, with_in_row, with_replica}
 use Rattle.eris_nodes.specs.MemberRows.{MembersOut, MembersValue, identity, members_step, one_steps}
 use Rattle.eris_nodes.specs.ReplicaRows.{AreRows, IsRow, ReplicasOut, one_of_all_steps, replicas_step, row_of_shard, rows_of}

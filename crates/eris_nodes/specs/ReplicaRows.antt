@@ -11,7 +11,7 @@ use Rattle.eris_rules.specs.Good.{settled_log}
 use Rattle.eris_rules.specs.Replicas.{replica_step}
 use Rattle.eris_rules.specs.ReplicaStates.{ReplicaState, ReplicaOut}
 use Rattle.eris_rules.specs.Worlds.{first_replicas, replica_at, with_replica}
-use Rattle.eris_nodes.specs.MemberRows.{MembersValue, identity}
+use Rattle.eris_nodes.specs.MemberRows.{MembersValue}
 
 -- their states, by shard and replica, and whether memory ran out in a step of one
 pub record ReplicasValue : Type 0 where

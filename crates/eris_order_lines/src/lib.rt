@@ -9,4 +9,3 @@ mod survivors;
 
 pub use lines::order_lines;
 pub use survivors::{has_packet, is_listed};
-

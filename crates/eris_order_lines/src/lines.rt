@@ -21,12 +21,7 @@ pub fn order_lines(alloc: Global, packets: &[Packet]) -> Result<Row<OrderLine>, 
         if is_conclusory(&packet.body) {
             decided.insert(0, packet.id)?;
         } else if !is_among(packet.id, seen.as_slice()) {
-            lines.push(line_of(
-                alloc,
-                packet,
-                decided.as_slice(),
-                &packets[at + 1..],
-            )?)?;
+            lines.push(line_of(alloc, packet, decided.as_slice(), &packets[at + 1..])?)?;
             seen.insert(0, packet.id)?;
         }
     }

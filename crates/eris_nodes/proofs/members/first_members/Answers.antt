@@ -1,4 +1,4 @@
-use Rattle.std.proofs.Common.{◌≡◌, ◌++◌, ◌∷◌, [], length, ap, subst, sym, ◌∙◌, arith}
+use Rattle.std.proofs.Common.{◌∷◌, [], length, ap, ◌∙◌, arith}
 use Rattle.std.proofs.lemmas.List.{length-append}
 use Rattle.eris_replica.specs.ReplicaValues.{ReplicaValue}
 use Rattle.eris_nodes.proofs.MemberLaws.{first_states-more, first_members-more}

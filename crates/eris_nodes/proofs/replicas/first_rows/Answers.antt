@@ -1,4 +1,4 @@
-use Rattle.std.proofs.Common.{◌≡◌, ◌++◌, ◌∷◌, [], length, ap, ◌∙◌, arith}
+use Rattle.std.proofs.Common.{◌∷◌, [], length, ap, ◌∙◌, arith}
 use Rattle.std.proofs.lemmas.List.{length-append}
 use Rattle.eris_nodes.proofs.ReplicaLaws.{first_rows-more, are_rows-more}
 use Rattle.eris_nodes.proofs.replicas.first_rows.Goals as goal

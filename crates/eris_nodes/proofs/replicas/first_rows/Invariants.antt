@@ -1,4 +1,4 @@
-use Rattle.std.proofs.Common.{◌≡◌, length, map, ℕ}
+use Rattle.std.proofs.Common.{◌≡◌, length, map}
 use Rattle.std.specs.List.{range_with_len}
 use Rattle.eris_nodes.specs.ReplicaRows.{AreRows, row_of_shard, rows_of}
 use Rattle.eris_nodes.proofs.replicas.first_rows.Given as goal

@@ -1,4 +1,4 @@
-use Rattle.std.proofs.Common.{◌≡◌, ◌++◌, [], drop}
+use Rattle.std.proofs.Common.{◌≡◌, ◌++◌, drop}
 use Rattle.eris_order.specs.Orders.{order_lines, order_lines_from}
 use Rattle.eris_order_lines.proofs.lines.order_lines.Given as goal
 
