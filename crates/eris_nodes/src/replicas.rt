@@ -1,13 +1,18 @@
 ghost use Rattle.std.specs.Prelude.{◌≡◌, false, true, IfOk, OnErr, OnOk};
+ghost use Rattle.std.specs.List.{list_any};
+ghost use Rattle.eris_base.specs.ConfigLimits.{ConfigValue};
 ghost use Rattle.eris_in_place.specs.MessageRanges.{SendsFit};
 ghost use Rattle.eris_replica.specs.ReplicaValues.{InputFits};
 ghost use Rattle.eris_nodes.specs.ReplicaRows.{AreRows, first_rows, log_of, replicas_step, rows_of};
-ghost use Rattle.eris_rules.specs.Worlds.{replica_at};
+ghost use Rattle.eris_rules.specs.Reports.{all_lines};
+ghost use Rattle.eris_rules.specs.WorldOrders.{is_held_by, is_held_in};
+ghost use Rattle.eris_rules.specs.Worlds.{WorldState, replica_at};
 
 use crate::members::{Members, leave};
-use eris_base::{Config, NoMemory, ReplicaId, Row, ShardId};
+use eris_base::{Config, Epoch, NoMemory, ReplicaId, Row, ShardId};
 use eris_msg::Outgoing;
 use eris_rules::ReplicaInput;
+use eris_script::ReplicaLine;
 use eris_txn::Packet;
 use std::alloc::Global;
 use std::marker::Model;
@@ -75,7 +80,11 @@ impl Replicas {
     }
 
     /// The settled log of a replica; nothing where there is no such replica.
-    pub fn settled_log(&self, shard: ShardId, replica: ReplicaId) -> Result<Row<Packet>, NoMemory>
+    pub fn settled_log(
+        &self,
+        shard: ShardId,
+        replica: ReplicaId,
+    ) -> Result<Row<Packet>, NoMemory>
         ensures { IfOk result (λ log. log ≡ log_of (replica_at self.now.rows shard replica)) }
     {
         let at = shard.0 as usize;
@@ -85,6 +94,42 @@ impl Replicas {
         let row = &self.rows[at];
         row.settled_log(replica)
     }
+
+    /// Whether some replica of the epoch holds the packet, be it crashed or not.
+    pub fn is_held(&self, epoch: Epoch, packet: &Packet) -> bool
+        ensures { result ≡ is_held_in epoch self.now.rows packet.now }
+    {
+        any_row_holds(self.rows.as_slice(), epoch, packet)
+    }
+
+    /// A line for each replica, by shard and replica.
+    pub fn lines(&self, crashed: &[(ShardId, ReplicaId)]) -> Result<Row<ReplicaLine>, NoMemory>
+        requires { self.now.spent ≡ false }
+        ensures { (world : WorldState) → world.crashed ≡ crashed.now → IfOk result (λ lines. lines ≡ all_lines world 0 self.now.rows) }
+    {
+        lines_of(self.alloc, self.rows.as_slice(), crashed)
+    }
+}
+
+fn any_row_holds(rows: &[Members], epoch: Epoch, packet: &Packet) -> bool
+    ensures { result ≡ list_any (λ row. list_any (is_held_by epoch packet.now) row.states) rows.now }
+{
+    rows.iter().any(|row| row.is_held(epoch, packet))
+}
+
+fn lines_of(
+    alloc: Global,
+    rows: &[Members],
+    crashed: &[(ShardId, ReplicaId)],
+) -> Result<Row<ReplicaLine>, NoMemory>
+    ensures { (world : WorldState) → world.crashed ≡ crashed.now
+        → (config : ConfigValue) → AreRows config 0 rows.now → IfOk result (λ lines. lines ≡ all_lines world 0 (rows_of rows.now)) }
+{
+    let mut lines = Row::new(alloc);
+    for row in rows {
+        row.add_lines(crashed, &mut lines)?;
+    }
+    Ok(lines)
 }
 
 #[tactic(auto, unfolding(crate::specs::ReplicaRows::first_rows))]

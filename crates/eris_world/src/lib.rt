@@ -4,7 +4,9 @@
 
 mod acting;
 mod delivering;
+mod ordering;
 mod refusing;
+mod reporting;
 mod world;
 
 pub use eris_rules::Refusal;
