@@ -29,7 +29,7 @@ unfolding replica_at
 row_states_at rows shard replica row lt e =
     sym (ap (λ (o : Option (List ReplicaState)). in_row o replica.0)
     (slice_get-map (λ (row : MembersValue). row.states) rows shard.0 ∙ ap (λ (o : Option MembersValue). option_map (λ (row : MembersValue). row.states) o) (slice_get-get_or rows shard.0 row lt)
-      ∙ ap (λ (z : MembersValue). Some z.states) (sym e)))
+    ∙ ap (λ (z : MembersValue). Some z.states) (sym e)))
 
 pub no_log : (states : List ReplicaState) (i : ℕ) → length states ≤ i → [] ≡ log_of (slice_get states i)
 no_log states i past = ap log_of (sym (slice_get_past states i past))

@@ -80,11 +80,7 @@ impl Replicas {
     }
 
     /// The settled log of a replica; nothing where there is no such replica.
-    pub fn settled_log(
-        &self,
-        shard: ShardId,
-        replica: ReplicaId,
-    ) -> Result<Row<Packet>, NoMemory>
+    pub fn settled_log(&self, shard: ShardId, replica: ReplicaId) -> Result<Row<Packet>, NoMemory>
         ensures { IfOk result (λ log. log ≡ log_of (replica_at self.now.rows shard replica)) }
     {
         let at = shard.0 as usize;
