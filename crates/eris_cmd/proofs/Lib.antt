@@ -1,2 +1,4 @@
-pub mod Headlines
-pub mod Words
+pub mod Answering
+pub mod LineRuns
+pub mod Runs
+pub mod ScriptLaws

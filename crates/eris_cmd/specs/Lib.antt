@@ -1,1 +1,6 @@
-pub mod Headline
+pub mod Calls
+pub mod Dues
+pub mod Statuses
+pub mod Texts
+pub mod ThinRuns
+pub mod ThinScript

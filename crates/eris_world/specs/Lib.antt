@@ -1,4 +1,6 @@
-pub mod Becoming
-pub mod Checking
-pub mod WorldFacts
-pub mod WorldValues
+pub mod ThinNodes
+pub mod ThinWorld
+pub mod ThinOrder
+pub mod ThinKept
+pub mod ThinReport
+pub mod ThinWaiting

@@ -1,4 +1,0 @@
-mod ClientLaws
-mod MemberLaws
-mod ObserverLaws
-mod ReplicaLaws
