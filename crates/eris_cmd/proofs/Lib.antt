@@ -1,4 +1,2 @@
-pub mod Answering
-pub mod LineRuns
-pub mod Runs
-pub mod ScriptLaws
+pub mod Headlines
+pub mod Words

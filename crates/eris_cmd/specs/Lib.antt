@@ -1,6 +1,1 @@
-pub mod Calls
-pub mod Dues
-pub mod Statuses
-pub mod Texts
-pub mod ThinRuns
-pub mod ThinScript
+pub mod Headline

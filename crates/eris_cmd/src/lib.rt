@@ -2,14 +2,6 @@
 #![tactic(auto)]
 
 mod call;
-mod due;
-mod failure;
-mod status;
-mod telling;
-#[cfg(test)]
-mod tests;
-mod texts;
-mod thin_run;
 
 pub use call::eris_call;
-pub use status::Status;
+pub use eris_run::Status;

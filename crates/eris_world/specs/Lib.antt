@@ -1,6 +1,4 @@
-pub mod ThinNodes
-pub mod ThinWorld
-pub mod ThinOrder
-pub mod ThinKept
-pub mod ThinReport
-pub mod ThinWaiting
+pub mod Becoming
+pub mod Checking
+pub mod WorldFacts
+pub mod WorldValues

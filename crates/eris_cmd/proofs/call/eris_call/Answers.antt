@@ -1,5 +1,6 @@
-use Rattle.eris_cmd.proofs.Answering.{reports_run}
+use Rattle.eris_cmd.proofs.Headlines.{headline}
 use Rattle.eris_cmd.proofs.call.eris_call.Goals as goal
 
-pub returns-in-Ok-tell-clause-done : goal.returns-in-Ok-tell-clause-done
-returns-in-Ok-tell-clause-done g c = reports_run c.every_run_is_good.ensures c.in-Ok.ensures.ok (rw c.as_slice.ensures at c.in-Ok-tell.ensures.ok)
+-- src/call.rt:19:1
+pub returns-clause-done : goal.returns-clause-done
+returns-clause-done g c = λ done. headline c.every_run_is_good.ensures.script c.undisturbed_scripts_answer.ensures.script c.undisturbed_scripts_answer.ensures.script_front (c.run_script.ensures.done done)

@@ -1,5 +1,5 @@
 use Rattle.std.proofs.Common.{string_bytes, bytes_eq, codes, ap, ◌∙◌, arith}
-use Rattle.eris_cmd.proofs.Answering.{is_word_alone}
+use Rattle.eris_cmd.proofs.Words.{is_word_alone}
 use Rattle.eris_cmd.proofs.call.is_run.Goals as goal
 
 pub returns-in-len1 : goal.returns-in-len1

@@ -1,0 +1,88 @@
+#!/usr/bin/env python3
+"""Measures the built program and prints what a line and a byte cost, as ratios.
+
+usage: measure.py [PROGRAM]     the program is crates/eris/out/eris where none is named
+
+- `retries`: one submission and retries of it, up to the most packets that a run may send. The time per line
+  should stay the same, and the memory is compared with the bytes that the world has to keep.
+- `deliveries`: many packets that wait, delivered one after another. A delivery must not look for what was
+  delivered before, so the time per delivery should stay the same.
+- `busy`: submissions over 4 shards of 3 replicas, each followed by its deliveries. The time of each next
+  thousand is compared with that of the first.
+
+Nothing here is a test: the figures are the machine's, and only their ratios say something.
+"""
+import os
+import resource
+import subprocess
+import sys
+import time
+
+HERE = os.path.dirname(os.path.abspath(__file__))
+PROGRAM = os.path.join(HERE, "..", "crates", "eris", "out", "eris")
+
+# the bytes of the frame of an Ask that reads one key with a name of one byte
+ASK_FRAME = 26
+
+
+def run(program, script):
+    """The seconds of processor time that the script takes, and the most KiB of memory."""
+    started = time.time()
+    child = subprocess.Popen([program, "run"], stdin=subprocess.PIPE, stdout=subprocess.DEVNULL)
+    child.stdin.write(script)
+    child.stdin.close()
+    _, status, usage = os.wait4(child.pid, 0)
+    child.returncode = os.waitstatus_to_exitcode(status)
+    if child.returncode != 0:
+        sys.exit(f"the script ended with status {child.returncode} after {time.time() - started:.1f} s")
+    return usage.ru_utime + usage.ru_stime, usage.ru_maxrss
+
+
+def retries(program):
+    head = b"eris 1 1 0 1\nsubmit 0 get 0/a\n"
+    _, empty = run(program, head)
+    first = None
+    for count in (32768, 65536, 131072, 262143):
+        seconds, most = run(program, head + b"retry 0 1\n" * count)
+        each = seconds / count * 1e6
+        first = first or each
+        kept = count * ASK_FRAME
+        memory = (most - empty) * 1024 / kept
+        print(f"retries    {count:7} lines {seconds:8.2f} s  {each:8.2f} us a line, {each / first:5.2f} of the first;"
+              f"  {memory:5.1f} bytes of memory for each byte kept")
+
+
+def deliveries(program):
+    head = b"eris 1 1 0 1\nsubmit 0 get 0/a\n"
+    first = None
+    for count in (2000, 4000, 8000, 16000):
+        script = head + b"retry 0 1\n" * count + b"lose %d\n" % count
+        seconds, _ = run(program, script)
+        each = seconds / count * 1e6
+        first = first or each
+        print(f"deliveries {count:7} times {seconds:8.2f} s  {each:8.2f} us each,  {each / first:5.2f} of the first")
+
+
+def busy(program):
+    lines = [b"eris 1 4 1 4\n"]
+    before, first = 0.0, None
+    for thousand in range(1, 6):
+        for turn in range((thousand - 1) * 1000, thousand * 1000):
+            lines.append(b"submit %d put %d/k%d %d\nflow 7\n" % (turn % 4, turn % 4, turn % 97, turn))
+        seconds, most = run(program, b"".join(lines))
+        more = seconds - before
+        first = first or more
+        print(f"busy       {thousand * 1000:7} submissions {seconds:8.2f} s, {more:8.2f} s for the last thousand,"
+              f" {more / first:5.2f} of the first;  {most // 1024} MiB")
+        before = seconds
+
+
+def main():
+    program = os.path.abspath(sys.argv[1]) if len(sys.argv) > 1 else PROGRAM
+    resource.setrlimit(resource.RLIMIT_CORE, (0, 0))
+    retries(program)
+    deliveries(program)
+    busy(program)
+
+
+main()

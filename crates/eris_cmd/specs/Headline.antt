@@ -1,0 +1,36 @@
+-- THE HEADLINE: what the top call promises of a script that it has run. `left` and `left'` are the bytes that the source has
+-- still to give, as the call begins and as it returns, and `taken` and `taken'` those that the sink has taken, where they are known.
+use Rattle.std.specs.Prelude.{◌≡◌, ℕ, Option, Some, Ok, List}
+use Rattle.std.specs.Io.KnownBytes.{Appends}
+use Rattle.std.specs.List.{flat_map}
+use Rattle.eris_base.specs.Transfers.{ReadsToEnd}
+use Rattle.eris_script.specs.ReportText.{report_text}
+use Rattle.eris_script.specs.Scripts.{Script, events_of, script}
+use Rattle.eris_rules.specs.Good.{Good}
+use Rattle.eris_rules.specs.Reports.{report_of}
+use Rattle.eris_rules.specs.Runs.{run}
+use Rattle.eris_rules.specs.Worlds.{WorldState}
+use Rattle.eris_undisturbed_law.specs.Undisturbed.{AreAnswered, BeginsUndisturbed, IsUndisturbedScript}
+use Rattle.eris_run.specs.Calls.{input_limit}
+
+-- what was submitted in the script's undisturbed first lines is answered in the end
+pub record AnswersFront (whole : Script) (world : WorldState) (bytes : List ℕ) (front : BeginsUndisturbed bytes) : Type 0 where
+  pub middle : WorldState
+  pub ran : run whole.config (flat_map events_of front.said) ≡ Some middle
+  pub answered : AreAnswered middle.history world.history
+
+-- The source was read to its end, and its bytes are a script. This is the world after its events, and it is good: what happened
+-- at the clients is serial in its order, and what each replica has settled is how that order begins on its shard. An undisturbed
+-- script has each of its transactions answered there, and so have the first lines of any script, where they are undisturbed.
+-- What was written is the report of that very world.
+pub record ReportsGoodRun (left left' taken taken' : Option (List ℕ)) : Type 0 where
+  pub bytes : List ℕ
+  pub read : ReadsToEnd left left' input_limit bytes
+  pub whole : Script
+  pub is_script : script bytes ≡ Ok whole
+  pub world : WorldState
+  pub ran : run whole.config whole.events ≡ Some world
+  pub good : Good world
+  pub answers : IsUndisturbedScript bytes → AreAnswered world.history world.history
+  pub answers_front : (front : BeginsUndisturbed bytes) → AnswersFront whole world bytes front
+  pub written : Appends taken taken' (report_text (report_of whole.config world))

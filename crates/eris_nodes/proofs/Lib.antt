@@ -1,0 +1,4 @@
+mod ClientLaws
+mod MemberLaws
+mod ObserverLaws
+mod ReplicaLaws

@@ -1,0 +1,50 @@
+use Rattle.std.proofs.Common.{◌≡◌, ◌<◌, ◌≤◌, None, false, length, ap, sym, subst, ◌∙◌, arith}
+use Rattle.std.specs.Prelude.{slice_set}
+use Rattle.std.proofs.lemmas.List.{length-map}
+use Rattle.eris_client.specs.ClientValues.{ClientValue}
+use Rattle.eris_rules.specs.ClientStates.{ClientIdentity}
+use Rattle.eris_nodes.specs.Acts.{CanAct, acts}
+use Rattle.eris_nodes.specs.Allowed.{CanActAt}
+use Rattle.eris_nodes.specs.ClientRows.{ClientsOut, ClientsValue, clients_act, states_of}
+use Rattle.eris_nodes.proofs.ClientLaws.{clients_set, client_at-is, clients_act-at, clients_act-past, found_at, is_client_after}
+use Rattle.eris_nodes.proofs.clients.Clients.act.Goals as goal
+
+pub returns-then-at-len-clause-ok : goal.returns-then-at-len-clause-ok
+returns-then-at-len-clause-ok c =
+    let past : length c.args.self.now.states ≤ c.args.client.0 =
+    omega (arith, c.if-at-len.true, c.len.ensures, ap (λ (v : ClientsValue). length v.states) c.self.view_is, length-map c.self.inside.clients.items (λ (one : ClientValue). one.state)) in
+    ap (λ sends. let out : ClientsOut = record { states = c.args.self.now.states; sends = sends; event = None } in out) c.new.ensures
+    ∙ clients_act-past c.args.self.now.config c.args.self.now.states c.args.client (acts c.args.act) past
+
+pub perform-requires-clause-unspent : goal.perform-requires-clause-unspent
+perform-requires-clause-unspent c =
+    let unspent : c.self.inside.spent ≡ false = ap (λ (v : ClientsValue). v.spent) c.self.view_is ∙ c.requires.unspent in
+    let within : c.args.client.0 < length c.self.inside.clients.items = omega (arith, c.if-at-len.false, c.len.ensures) in
+    (client_at-is c.self.inside.config c.self.inside.clients.items c.args.client.0 c.index_mut-one.result.now (c.self.invariant unspent) within c.index_mut-one.ensures.value).unspent
+
+pub perform-requires-clause-can : goal.perform-requires-clause-can
+perform-requires-clause-can c =
+    let unspent : c.self.inside.spent ≡ false = ap (λ (v : ClientsValue). v.spent) c.self.view_is ∙ c.requires.unspent in
+    let within : c.args.client.0 < length c.self.inside.clients.items = omega (arith, c.if-at-len.false, c.len.ensures) in
+    let can : CanActAt c.self.inside.config (states_of c.self.inside.clients.items) c.args.client c.args.act =
+    subst (λ (v : ClientsValue). CanActAt v.config v.states c.args.client c.args.act) (sym c.self.view_is) c.requires.can in
+    subst (λ (z : ClientIdentity). CanAct z c.index_mut-one.result.now.state c.args.act)
+    (sym (client_at-is c.self.inside.config c.self.inside.clients.items c.args.client.0 c.index_mut-one.result.now (c.self.invariant unspent) within c.index_mut-one.ensures.value).me)
+    (can c.index_mut-one.result.now.state (found_at c.self.inside.clients.items c.args.client c.index_mut-one.result.now within c.index_mut-one.ensures.value))
+
+pub invariant_of-self-2 : goal.invariant_of-self-2
+invariant_of-self-2 c =
+    let unspent : c.self.inside.spent ≡ false = ap (λ (v : ClientsValue). v.spent) c.self.view_is ∙ c.requires.unspent in
+    let within : c.args.client.0 < length c.self.inside.clients.items = omega (arith, c.if-at-len.false, c.len.ensures) in
+    let one = client_at-is c.self.inside.config c.self.inside.clients.items c.args.client.0 c.index_mut-one.result.now (c.self.invariant unspent) within c.index_mut-one.ensures.value in
+    λ _. clients_set c.self.inside.config c.self.inside.clients.items (c.self.invariant unspent) c.args.client.0 c.perform.new.one
+    (is_client_after c.self.inside.config c.args.client.0 c.index_mut-one.result.now c.perform.new.one one c.in_ok-told.ensures.stays)
+
+pub returns-clause-ok : goal.returns-clause-ok
+returns-clause-ok c =
+    let unspent : c.self.inside.spent ≡ false = ap (λ (v : ClientsValue). v.spent) c.self.view_is ∙ c.requires.unspent in
+    let within : c.args.client.0 < length c.self.inside.clients.items = omega (arith, c.if-at-len.false, c.len.ensures) in
+    let new : ClientsOut = record { states = states_of (slice_set c.self.inside.clients.items c.args.client.0 c.perform.new.one); sends = c.in_ok-told.told.0; event = c.in_ok-told.told.1 } in
+    subst (λ (v : ClientsValue). new ≡ clients_act v.config v.states c.args.client (acts c.args.act)) c.self.view_is
+    (clients_act-at c.self.inside.config c.self.inside.clients.items c.args.client c.index_mut-one.result.now c.perform.new.one c.in_ok-told.told.0 c.in_ok-told.told.1 (acts c.args.act)
+    (c.self.invariant unspent) within c.index_mut-one.ensures.value c.in_ok-told.ensures.ok)

@@ -1,0 +1,12 @@
+//! All replicas and all clients of a system, each under its number.
+#![tactic(auto)]
+
+mod act;
+mod clients;
+mod members;
+mod replicas;
+
+pub use act::Act;
+pub use clients::Clients;
+pub use members::count_of;
+pub use replicas::Replicas;

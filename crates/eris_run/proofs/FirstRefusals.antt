@@ -1,0 +1,232 @@
+-- What a run refuses is the first line that is refused. Used where a refused script is told.
+use Rattle.std.proofs.Common.{◌≡◌, inl, inr, ℕ, ◌+◌, Option, Some, None, Result, Ok, Err, IfErr, List, [], ◌∷◌, ◌++◌, length, ap, sym, ◌∙◌, refl, subst, arith}
+use Rattle.eris_base.specs.ConfigLimits.{ConfigValue}
+use Rattle.eris_script.specs.declared.event.Event.{Event}
+use Rattle.eris_script.specs.declared.header.Header.{Header}
+use Rattle.eris_script.specs.declared.line.Line.{Line}
+use Rattle.eris_script.specs.declared.reason.Reason.{Reason}
+use Rattle.eris_script.specs.declared.reason.Reason.TheVariants as reasons
+use Rattle.eris_script.specs.Cuts.{lines, words}
+use Rattle.eris_script.specs.Headers.{header_of}
+use Rattle.eris_script.specs.LineForms.{line_of}
+use Rattle.eris_script.specs.Scripts.{BadLine, events_from, events_of, with_events}
+use Rattle.eris_rules.specs.declared.refusal.Refusal.{Refusal}
+use Rattle.eris_rules.specs.Happenings.{happens}
+use Rattle.eris_rules.specs.Refusals.{refusal}
+use Rattle.eris_rules.specs.Runs.{run}
+use Rattle.eris_rules.specs.Worlds.{WorldState, first_world}
+use Rattle.eris_run.specs.declared.refused.Refused.{Refused}
+use Rattle.eris_run.specs.declared.refused.Stop.{Stop}
+use Rattle.eris_run.specs.declared.refused.Stop.TheVariants as stops
+use Rattle.eris_run.specs.declared.refused.Why.{Why}
+use Rattle.eris_run.specs.declared.refused.Why.TheVariants as whys
+use Rattle.eris_run.specs.FirstRefused.{IsFirstRefused, RefusesBehind, RefusesEvent, RefusesHeader, RefusesText, first_of}
+use Rattle.eris_run.specs.LineRuns.{IfRefused}
+use Rattle.eris_run.specs.ScriptRuns.{Ran, after_event, after_events, after_header, after_line, after_lines, after_read, after_said, after_text, outcome, ran_in, told, unless, why_of}
+use Rattle.eris_run.proofs.EventRuns.{after_append}
+use Rattle.eris_run.proofs.ScriptLaws.{line_taken, ran_is}
+
+-- ---- the first event that is refused
+found_cause : (config : ConfigValue) (w : WorldState) (event : Event) (cause : Refusal) → after_event config w event ≡ Err cause → refusal config w event ≡ Some cause
+unfolding after_event
+found_cause config w event cause refused = of_refusal (refusal config w event) refused
+  where
+    of_refusal : (found : Option Refusal) → unless found (happens config w event) ≡ Err cause → found ≡ Some cause
+    of_refusal None same = absurd cc
+    of_refusal (Some why) same = let is : why ≡ cause = cc in ap (λ (r : Refusal). Some r) is
+
+record Among (config : ConfigValue) (w : WorldState) (events : List Event) (cause : Refusal) : Type 0 where
+  front : List Event
+  event : Event
+  back : List Event
+  cut : events ≡ front ++ event ∷ back
+  before : WorldState
+  ran : after_events config w front ≡ Ok before
+  found : refusal config before event ≡ Some cause
+
+among : (config : ConfigValue) (w : WorldState) (events : List Event) (cause : Refusal) → after_events config w events ≡ Err cause → Among config w events cause
+unfolding after_events
+among config w [] cause refused = absurd cc
+among config w (event ∷ events) cause refused = of_first (after_event config w event) refl (λ next. among config next events cause) refused
+  where
+    of_first : (first : Result WorldState Refusal) → after_event config w event ≡ first
+        → ((next : WorldState) → after_events config next events ≡ Err cause → Among config next events cause)
+        → (elim first as (λ _. Result WorldState Refusal) [ Ok next ↦ after_events config next events | Err why ↦ Err why ]) ≡ Err cause
+        → Among config w (event ∷ events) cause
+    of_first (Ok next) is later same =
+        let rest = later next same in
+        record {
+          front = event ∷ rest.front;
+          event = rest.event;
+          back = rest.back;
+          cut = ap (λ (more : List Event). event ∷ more) rest.cut;
+          before = rest.before;
+          ran =
+              ap (λ (first : Result WorldState Refusal). elim first as (λ _. Result WorldState Refusal) [ Ok v ↦ after_events config v rest.front | Err why ↦ Err why ]) is
+              ∙ rest.ran;
+          found = rest.found;
+        }
+    of_first (Err why) is later same =
+        let equal : why ≡ cause = cc in
+        record {
+          front = [];
+          event = event;
+          back = events;
+          cut = refl;
+          before = w;
+          ran = refl;
+          found = found_cause config w event cause (is ∙ ap (λ (r : Refusal). Err r) equal);
+        }
+
+event_refused : (config : ConfigValue) (w : WorldState) (events : List Event) (cause : Refusal) → after_events config w events ≡ Err cause → RefusesEvent config w events cause
+event_refused config w events cause refused =
+    let found = among config w events cause refused in
+    record {
+      front = found.front;
+      event = found.event;
+      back = found.back;
+      cut = found.cut;
+      before = found.before;
+      ran = ran_is config w found.before found.front found.ran;
+      found = found.found;
+    }
+
+-- ---- why a line is refused
+said_refused : (version : ℕ) (config : ConfigValue) (w : WorldState) (text : List ℕ) (said : Line) (why : Why) → line_of version text ≡ Ok said
+    → (ran : Result WorldState Refusal) → after_events config w (events_of said) ≡ ran → told ran ≡ Err why → RefusesText version config w text why
+said_refused version config w text said why read (Ok next) is same = absurd cc
+said_refused version config w text said why read (Err cause) is same =
+    let equal : why_of cause ≡ why = cc in
+    inr (record { said = said; read = read; cause = cause; refused = event_refused config w (events_of said) cause is; told = sym equal })
+
+text_refused : (version : ℕ) (config : ConfigValue) (w : WorldState) (text : List ℕ) (why : Why) → after_line version config w text ≡ Err why → RefusesText version config w text why
+unfolding after_line after_said
+text_refused version config w text why refused = of_read (line_of version text) refl refused
+  where
+    of_read : (read : Result Line Reason) → line_of version text ≡ read → after_read config w read ≡ Err why → RefusesText version config w text why
+    of_read (Ok said) is same = said_refused version config w text said why is (after_events config w (events_of said)) refl same
+    of_read (Err reason) is same =
+        let equal : whys.Reason reason ≡ why = cc in
+        inl (record { reason = reason; found = is; told = sym equal })
+
+-- ---- the first line that is refused, of lines from this number on
+record AmongLines (version : ℕ) (config : ConfigValue) (number : ℕ) (w : WorldState) (texts : List (List ℕ)) (refused : Refused) : Type 0 where
+  front : List (List ℕ)
+  text : List ℕ
+  back : List (List ℕ)
+  cut : texts ≡ front ++ text ∷ back
+  here : refused.line ≡ length front + number
+  events : List Event
+  says : events_from version number front ≡ Ok events
+  world : WorldState
+  ran : after_events config w events ≡ Ok world
+  refuses : RefusesText version config world text refused.why
+
+among_lines : (version : ℕ) (config : ConfigValue) (number : ℕ) (w : WorldState) (texts : List (List ℕ)) (refused : Refused) → after_lines version config number w texts ≡ Err refused → AmongLines version config number w texts refused
+unfolding after_lines events_from after_events
+among_lines version config number w [] refused found = absurd cc
+among_lines version config number w (text ∷ texts) refused found = of_line (after_line version config w text) refl (λ next. among_lines version config (number + 1) next texts refused) found
+  where
+    of_line : (here : Result WorldState Why) → after_line version config w text ≡ here
+        → ((next : WorldState) → after_lines version config (number + 1) next texts ≡ Err refused → AmongLines version config (number + 1) next texts refused)
+        → (elim here as (λ _. Result WorldState Refused) [ Ok next ↦ after_lines version config (number + 1) next texts | Err why ↦ Err (record { line = number; why = why }) ]) ≡ Err refused
+        → AmongLines version config number w (text ∷ texts) refused
+    of_line (Ok next) is later same =
+        let one = line_taken version config w next text is in
+        let rest = later next same in
+        let at : refused.line ≡ length rest.front + (number + 1) = rest.here in
+        record {
+          front = text ∷ rest.front;
+          text = rest.text;
+          back = rest.back;
+          cut = ap (λ (more : List (List ℕ)). text ∷ more) rest.cut;
+          here = omega arith;
+          events = events_of one.said ++ rest.events;
+          says =
+              ap (λ (read : Result Line Reason). elim read as (λ _. Result (List Event) BadLine) [ Ok said ↦ with_events (events_of said) (events_from version (number + 1) rest.front) | Err why ↦ Err (record { line = number; reason = why }) ]) one.says
+              ∙ ap (with_events (events_of one.said)) rest.says;
+          world = rest.world;
+          ran = after_append config w next (events_of one.said) rest.events one.ran ∙ rest.ran;
+          refuses = rest.refuses;
+        }
+    of_line (Err why) is later same =
+        let equal : record { line = number; why = why } ≡ refused = cc in
+        record {
+          front = [];
+          text = text;
+          back = texts;
+          cut = refl;
+          here = let at : refused.line ≡ number = sym (ap (λ (r : Refused). r.line) equal) in omega arith;
+          events = [];
+          says = refl;
+          world = w;
+          ran = refl;
+          refuses = subst (λ (r : Refused). RefusesText version config w text r.why) equal (text_refused version config w text why is);
+        }
+
+-- ---- of a whole script
+behind : (bytes first : List ℕ) (texts : List (List ℕ)) (header : Header) (refused : Refused) → lines bytes ≡ first ∷ texts → header_of first ≡ Ok header
+    → after_lines header.version header.config 2 (first_world header.config) texts ≡ Err refused → RefusesBehind bytes refused.line refused.why
+unfolding run
+behind bytes first texts header refused cut is_header found =
+    let rest = among_lines header.version header.config 2 (first_world header.config) texts refused found in
+    record {
+      first = first;
+      front = rest.front;
+      text = rest.text;
+      back = rest.back;
+      cut = cut ∙ ap (λ (more : List (List ℕ)). first ∷ more) rest.cut;
+      here = rest.here;
+      header = header;
+      is_header = is_header;
+      events = rest.events;
+      says = rest.says;
+      world = rest.world;
+      ran = ran_is header.config (first_world header.config) rest.world rest.events rest.ran;
+      refused = rest.refuses;
+    }
+
+err_in : (config : ConfigValue) (ran : Result WorldState Refused) (refused : Refused) → ran_in config ran ≡ Err refused → ran ≡ Err refused
+err_in config (Ok v) refused same = absurd cc
+err_in config (Err other) refused same = let equal : other ≡ refused = cc in ap (λ (r : Refused). Err r) equal
+
+at_header : (bytes : List ℕ) (texts : List (List ℕ)) (reason : Reason) (refused : Refused) → lines bytes ≡ texts → header_of (first_of texts) ≡ Err reason
+    → ◌≡◌ {A = Result Ran Refused} (Err (record { line = 1; why = whys.Reason reason })) (Err refused) → RefusesHeader bytes refused.line refused.why
+at_header bytes texts reason refused cut is same =
+    let equal : record { line = 1; why = whys.Reason reason } ≡ refused = cc in
+    record {
+      here = sym (ap (λ (r : Refused). r.line) equal);
+      reason = reason;
+      found = ap (λ (some : List (List ℕ)). header_of (first_of some)) cut ∙ is;
+      told = sym (ap (λ (r : Refused). r.why) equal);
+    }
+
+abbrev none_named : Result Header Reason
+none_named = Err reasons.Header
+
+no_header : header_of [] ≡ none_named
+unfolding header_of words
+no_header = refl
+
+of_texts : (bytes : List ℕ) (texts : List (List ℕ)) (refused : Refused) → lines bytes ≡ texts → after_text texts ≡ Err refused → IsFirstRefused bytes refused.line refused.why
+of_texts bytes [] refused cut found = inl (at_header bytes [] reasons.Header refused cut no_header found)
+of_texts bytes (first ∷ texts) refused cut found = of_header (header_of first) refl found
+  where
+    of_header : (read : Result Header Reason) → header_of first ≡ read → after_header read texts ≡ Err refused → IsFirstRefused bytes refused.line refused.why
+    of_header (Ok header) is same =
+        inr (behind bytes first texts header refused cut is (err_in header.config (after_lines header.version header.config 2 (first_world header.config) texts) refused same))
+    of_header (Err reason) is same = inl (at_header bytes (first ∷ texts) reason refused cut is same)
+
+-- WHAT IS REFUSED is the first line that is
+pub first_refused : (bytes : List ℕ) (refused : Refused) → outcome bytes ≡ Err refused → IsFirstRefused bytes refused.line refused.why
+unfolding outcome
+first_refused bytes refused found = of_texts bytes (lines bytes) refused refl found
+
+first_at_stop : (bytes : List ℕ) (stop : Stop) → IfRefused stop (λ refused. outcome bytes ≡ Err refused) → IfRefused stop (λ refused. IsFirstRefused bytes refused.line refused.why)
+first_at_stop bytes (stops.Refused refused) found = first_refused bytes refused found
+first_at_stop bytes stops.NoMemory found = tt
+
+pub first_at_end : {X : Type 0} (bytes : List ℕ) (result : Result X Stop) → IfErr result (λ stop. IfRefused stop (λ refused. outcome bytes ≡ Err refused))
+    → IfErr result (λ stop. IfRefused stop (λ refused. IsFirstRefused bytes refused.line refused.why))
+first_at_end bytes (Ok world) found = tt
+first_at_end bytes (Err stop) found = first_at_stop bytes stop found

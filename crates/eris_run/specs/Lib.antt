@@ -1,0 +1,7 @@
+pub mod Calls
+pub mod Dues
+pub mod FirstRefused
+pub mod LineRuns
+pub mod ScriptRuns
+pub mod Statuses
+pub mod Texts
