@@ -4,7 +4,7 @@
 usage: measure.py [PROGRAM]     the program is crates/eris/out/eris where none is named
 
 - `retries`: one submission and retries of it, up to the most packets that a run may send. The time per line
-  should stay the same, and the memory is compared with the bytes that the world has to keep.
+  should stay the same, and the memory is compared with the bytes of the frames that the world keeps.
 - `deliveries`: many packets that wait, delivered one after another. A delivery must not look for what was
   delivered before, so the time per delivery should stay the same.
 - `busy`: submissions over 4 shards of 3 replicas, each followed by its deliveries. The time of each next
@@ -13,10 +13,9 @@ usage: measure.py [PROGRAM]     the program is crates/eris/out/eris where none i
 Nothing here is a test: the figures are the machine's, and only their ratios say something.
 """
 import os
-import resource
 import subprocess
 import sys
-import time
+import tempfile
 
 HERE = os.path.dirname(os.path.abspath(__file__))
 PROGRAM = os.path.join(HERE, "..", "crates", "eris", "out", "eris")
@@ -25,17 +24,34 @@ PROGRAM = os.path.join(HERE, "..", "crates", "eris", "out", "eris")
 ASK_FRAME = 26
 
 
+def high_water(pid):
+    """The most KiB of memory that the process has held so far; 0 where it has ended."""
+    try:
+        with open(f"/proc/{pid}/status") as status:
+            for line in status:
+                if line.startswith("VmHWM:"):
+                    return int(line.split()[1])
+    except OSError:
+        pass
+    return 0
+
+
 def run(program, script):
-    """The seconds of processor time that the script takes, and the most KiB of memory."""
-    started = time.time()
-    child = subprocess.Popen([program, "run"], stdin=subprocess.PIPE, stdout=subprocess.DEVNULL)
-    child.stdin.write(script)
-    child.stdin.close()
-    _, status, usage = os.wait4(child.pid, 0)
+    """The seconds of processor time that the script takes, and the most KiB of memory that were seen."""
+    with tempfile.TemporaryFile() as source:
+        source.write(script)
+        source.seek(0)
+        child = subprocess.Popen([program, "run"], stdin=source, stdout=subprocess.DEVNULL)
+        most = 0
+        while True:
+            most = max(most, high_water(child.pid))
+            ended, status, usage = os.wait4(child.pid, os.WNOHANG)
+            if ended:
+                break
     child.returncode = os.waitstatus_to_exitcode(status)
     if child.returncode != 0:
-        sys.exit(f"the script ended with status {child.returncode} after {time.time() - started:.1f} s")
-    return usage.ru_utime + usage.ru_stime, usage.ru_maxrss
+        sys.exit(f"the script ended with status {child.returncode}")
+    return usage.ru_utime + usage.ru_stime, most
 
 
 def retries(program):
@@ -49,7 +65,7 @@ def retries(program):
         kept = count * ASK_FRAME
         memory = (most - empty) * 1024 / kept
         print(f"retries    {count:7} lines {seconds:8.2f} s  {each:8.2f} us a line, {each / first:5.2f} of the first;"
-              f"  {memory:5.1f} bytes of memory for each byte kept")
+              f"  {memory:5.1f} bytes of memory for each byte of a kept frame")
 
 
 def deliveries(program):
@@ -79,7 +95,6 @@ def busy(program):
 
 def main():
     program = os.path.abspath(sys.argv[1]) if len(sys.argv) > 1 else PROGRAM
-    resource.setrlimit(resource.RLIMIT_CORE, (0, 0))
     retries(program)
     deliveries(program)
     busy(program)

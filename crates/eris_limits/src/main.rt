@@ -1,0 +1,39 @@
+//! Runs scripts that go to the limits: as long as a script may be, as many packets sent as may be, as many bytes
+//! sent as may be, and one more of each. Prints of each run the number of its status, the first line that it
+//! wrote, and of a report the line `sent` too.
+#![tactic(auto)]
+
+mod scripts;
+mod trial;
+
+use scripts::{commented, retried, sixteen_puts};
+use std::alloc::Global;
+use trial::run;
+
+fn main(rt: HostRuntime) -> anyhow::Result<()> {
+    let alloc = rt.alloc();
+    for length in [4_194_304, 4_194_305] {
+        let told = run(alloc, commented(alloc, length)?)?;
+        println!(rt; "{length} bytes: {told}")?;
+    }
+    for retries in [262_143, 262_144] {
+        let told = try_get(alloc, retries)?;
+        println!(rt; "a get and {retries} retries: {told}")?;
+    }
+    for retries in [150_467, 150_468] {
+        let told = try_puts(alloc, retries)?;
+        println!(rt; "sixteen puts and {retries} retries: {told}")?;
+    }
+    Ok(())
+}
+
+fn try_get(alloc: Global, retries: u32) -> anyhow::Result<String> {
+    let script = retried(alloc, "get 0/a", retries)?;
+    run(alloc, script)
+}
+
+fn try_puts(alloc: Global, retries: u32) -> anyhow::Result<String> {
+    let puts = sixteen_puts(alloc)?;
+    let script = retried(alloc, puts.as_str(), retries)?;
+    run(alloc, script)
+}
