@@ -1,2 +1,3 @@
+pub mod Drills
 pub mod Headlines
 pub mod Words

@@ -1,16 +1,23 @@
-ghost use Rattle.std.specs.Prelude.{◌≡◌, ◌≢◌, ◌⊎◌, ◌↔◌, ◌≤◌, [], ◌∷◌, map, codes, string_bytes, IfSome, IsTrue};
+ghost use Rattle.std.specs.Prelude.{◌≡◌, ◌≢◌, ◌⊎◌, ◌↔◌, ◌≤◌, ℕ, map, string_bytes, IfSome};
 ghost use Rattle.eris_base.specs.Faults.{Rose};
 ghost use Rattle.eris_cmd.specs.Headline.{ReportsGoodRun};
-ghost use Rattle.eris_run.specs.Calls.{RefusesLine, RefusesLarge, StopsWriting, IfBadScript, IfTooLarge, IsAccepted, status_due};
+ghost use Rattle.eris_cmd.specs.Commands.{IsDrill, IsKnown, IsRun};
+ghost use Rattle.eris_drill.specs.DrillText.{drill_text};
+ghost use Rattle.eris_drill_run.specs.Days.{IsAcceptedDrill, MeetsLimit, StopsTelling, SummarizesDay};
+ghost use Rattle.eris_run.specs.Calls.{RefusesLine, RefusesLarge, StopsWriting, IfBadScript, IfTooLarge, IsAccepted, status_due, status_for};
+ghost use Rattle.eris_run.specs.ScriptRuns.{outcome};
 
+use crate::command::{drill_of, is_run};
 use eris_base::{Sink, Source};
+use eris_drill_run::run_drill;
 use eris_good_law::every_run_is_good;
 use eris_run::{Status, run_script};
 use eris_undisturbed_law::undisturbed_scripts_answer;
 use std::alloc::Global;
 
-/// Does what the words ask, and answers how it ended. The only words today are `run` alone: the source
-/// has a script, which is run, and the report of the world after it goes to the sink.
+/// Does what the words ask, and answers how it ended. With `run` alone the source has a script, which is run,
+/// and the report of the world after it goes to the sink. With `drill N`, N from 1 to 500, the drill of that
+/// number is run, nothing is read, and the summary of its day goes to the sink.
 ///
 /// Where several answers could be given, `Usage` comes first, then `ReadFault` and `TooLarge` with line 0 as
 /// they come while the source is read, then the first line that is refused, then `WriteFault` in place of
@@ -22,34 +29,54 @@ pub fn eris_call<S: Source, K: Sink>(
     src: &mut S,
     snk: &mut K,
 ) -> Status
-    // Exactly where the words aren't `run` alone; then nothing is read or written.
-    ensures usage { (result ≡ Status.Usage) ↔ (map string_bytes words.now ≢ codes "run" ∷ []) }
+    // Exactly where the words are neither `run` alone nor `drill N`; then nothing is read or written.
+    ensures usage { (result ≡ Status.Usage) ↔ ¬ IsKnown (map string_bytes words.now) }
     ensures usage_touches_nothing { result ≡ Status.Usage → (src.new ≡ src.old) × (snk.new ≡ snk.old) }
 
-    // What each answer says of the bytes read and written. The first is the headline.
-    ensures done { result ≡ Status.Done
+    // RUN. What each answer says of the bytes read and written. The first is the headline.
+    ensures done { IsRun (map string_bytes words.now) → result ≡ Status.Done
         → ReportsGoodRun (S.left src.old) (S.left src.new) (K.taken snk.old) (K.taken snk.new) }
-    ensures bad_script { IfBadScript result
-        (RefusesLine (S.left src.old) (S.left src.new) (K.taken snk.old) (K.taken snk.new)) }
-    ensures too_large { IfTooLarge result
+    ensures too_large { IsRun (map string_bytes words.now) → IfTooLarge result
         (RefusesLarge (S.left src.old) (S.left src.new) (K.taken snk.old) (K.taken snk.new)) }
-    ensures read_fault { result ≡ Status.ReadFault
-        → Rose (S.faults src.old) (S.faults src.new) × (snk.new ≡ snk.old) }
-    ensures write_fault { result ≡ Status.WriteFault
+    ensures write_fault { IsRun (map string_bytes words.now) → result ≡ Status.WriteFault
         → Rose (K.faults snk.old) (K.faults snk.new)
         × StopsWriting (S.left src.old) (S.left src.new) (K.taken snk.old) (K.taken snk.new) }
+
+    // These two come from `run` alone.
+    ensures bad_script { IfBadScript result (λ line reason. IsRun (map string_bytes words.now)
+        × RefusesLine (S.left src.old) (S.left src.new) (K.taken snk.old) (K.taken snk.new) line reason) }
+    ensures read_fault { result ≡ Status.ReadFault
+        → IsRun (map string_bytes words.now) × Rose (S.faults src.old) (S.faults src.new) × (snk.new ≡ snk.old) }
+
+    // DRILL. The same, of the day; nothing is read.
+    ensures drill_done { (number : ℕ) → IsDrill (map string_bytes words.now) number → result ≡ Status.Done
+        → SummarizesDay number (K.taken snk.old) (K.taken snk.new) }
+    ensures drill_too_large { (number : ℕ) → IsDrill (map string_bytes words.now) number
+        → IfTooLarge result (MeetsLimit number (K.taken snk.old) (K.taken snk.new)) }
+    ensures drill_write_fault { (number : ℕ) → IsDrill (map string_bytes words.now) number → result ≡ Status.WriteFault
+        → Rose (K.faults snk.old) (K.faults snk.new) × StopsTelling number (K.taken snk.old) (K.taken snk.new) }
+    ensures drill_reads_nothing { (number : ℕ) → IsDrill (map string_bytes words.now) number → src.new ≡ src.old }
+
     ensures no_memory { result ≡ Status.NoMemory → K.taken snk.new ≡ K.taken snk.old }
     ensures never { result ≢ Status.CheckedNo }
 
     // Where neither count of faults rose, the answer is the one that all the bytes of the source are due.
-    ensures complete { map string_bytes words.now ≡ codes "run" ∷ []
+    ensures complete { IsRun (map string_bytes words.now)
         → ¬ Rose (S.faults src.old) (S.faults src.new) → ¬ Rose (K.faults snk.old) (K.faults snk.new)
         → IfSome (S.left src.old) (λ left. (result ≡ status_due left) ⊎ (result ≡ Status.NoMemory)) }
 
     // So a script of which no line is refused is answered by its report.
-    ensures accepts { map string_bytes words.now ≡ codes "run" ∷ []
+    ensures accepts { IsRun (map string_bytes words.now)
         → ¬ Rose (S.faults src.old) (S.faults src.new) → ¬ Rose (K.faults snk.old) (K.faults snk.new)
         → IfSome (S.left src.old) (λ left. IsAccepted left result) }
+
+    // Where the sink's count of faults didn't rise, the answer is the one that the drill is due; so a drill of
+    // which no line meets a limit is answered by its summary.
+    ensures drill_complete { (number : ℕ) → IsDrill (map string_bytes words.now) number
+        → ¬ Rose (K.faults snk.old) (K.faults snk.new)
+        → (result ≡ status_for (outcome (drill_text number))) ⊎ (result ≡ Status.NoMemory) }
+    ensures drill_accepts { (number : ℕ) → IsDrill (map string_bytes words.now) number
+        → ¬ Rose (K.faults snk.old) (K.faults snk.new) → IsAcceptedDrill number result }
 
     // The counts of faults never fall.
     ensures source_count { S.faults src.old ≤ S.faults src.new }
@@ -57,17 +84,11 @@ pub fn eris_call<S: Source, K: Sink>(
 {
     every_run_is_good();
     undisturbed_scripts_answer();
-    if !is_run(words) {
-        return Status::Usage;
+    if is_run(words) {
+        return run_script(alloc, src, snk);
     }
-    run_script(alloc, src, snk)
-}
-
-fn is_run(words: &[String]) -> bool
-    ensures { IsTrue result ↔ (map string_bytes words.now ≡ codes "run" ∷ []) }
-{
-    match words {
-        [word] => word.as_str() == "run",
-        _ => false,
+    match drill_of(words) {
+        Some(number) => run_drill(alloc, number, snk),
+        None => Status::Usage,
     }
 }

@@ -2,6 +2,7 @@
 #![tactic(auto)]
 
 mod call;
+mod command;
 
 pub use call::eris_call;
 pub use eris_run::Status;

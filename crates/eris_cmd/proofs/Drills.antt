@@ -1,0 +1,76 @@
+-- The words of a drill, read and told apart. Used where the words of the command line are read.
+use Rattle.std.proofs.Common.{◌≡◌, inl, inr, ◌≤◌, ◌<◌, ℕ, Bool, IsTrue, bytes_eq, IfSome, Option, Some, None, List, [], ◌∷◌, codes, length, get_or, map, ap, sym, ◌∙◌, arith, lit<, subst}
+use Rattle.std.proofs.lemmas.Slice.Eq.{bytes_eq-Decides}
+use Rattle.eris_script.specs.Decimal.{decimal, read_decimal}
+use Rattle.eris_script.proofs.DecimalLaws.{read_decimal-decimal, read_decimal_only}
+use Rattle.eris_script.specs.declared.reason.Reason.{Reason}
+use Rattle.eris_run.specs.declared.status.Status.{Status}
+use Rattle.eris_run.specs.declared.status.Status.TheVariants.{Done, CheckedNo, Usage, BadScript, ReadFault, WriteFault, NoMemory, TooLarge}
+use Rattle.eris_run.specs.Calls.{IfBadScript}
+use Rattle.eris_cmd.specs.Commands.{IsDrill, IsKnown, IsNumberWord, IsRun}
+
+pub reads : (word : List ℕ) (number : ℕ) → read_decimal 500 word ≡ Some number → 1 ≤ number → IsNumberWord word number
+reads word number read some = let only = read_decimal_only 500 word number (lit< tt) read in record { is = only.0; some = some; few = only.1 }
+
+pub read_back : (word : List ℕ) (number : ℕ) → IsNumberWord word number → read_decimal 500 word ≡ Some number
+read_back word number is = ap (read_decimal 500) is.is ∙ read_decimal-decimal 500 number (lit< tt) is.few
+
+-- two words, of which the first is `drill`
+two_items : {X : Type 0} (xs : List X) (x y : X) → length xs ≡ 2 → x ≡ get_or xs 0 x → y ≡ get_or xs 1 y → xs ≡ x ∷ y ∷ []
+two_items [] x y two first second = absurd (omega arith)
+two_items (a ∷ []) x y two first second = absurd (omega arith)
+two_items (a ∷ b ∷ []) x y two first second = let one : x ≡ a = first in let other : y ≡ b = second in cc
+two_items (a ∷ b ∷ c ∷ more) x y two first second = absurd (omega arith)
+
+drill_some : (words : List (List ℕ)) (word : List ℕ) (result : Option ℕ) → words ≡ codes "drill" ∷ word ∷ [] → IfSome result (IsNumberWord word) → IfSome result (IsDrill words)
+drill_some words word None are written = tt
+drill_some words word (Some number) are written = record { word = word; are = are; written = written }
+
+pub names_drill : {X : Type 0} (spelled : X → List ℕ) (xs : List X) (x y : X) (test : Bool) (word : List ℕ) (result : Option ℕ) → length xs ≡ 2 → x ≡ get_or xs 0 x → y ≡ get_or xs 1 y
+    → test ≡ bytes_eq (spelled x) (codes "drill") → IsTrue test → word ≡ spelled y → IfSome result (IsNumberWord word) → IfSome result (IsDrill (map spelled xs))
+names_drill spelled xs x y test word result two first second tests spells_drill same written =
+    let drill : spelled x ≡ codes "drill" = (bytes_eq-Decides (spelled x) (codes "drill")).0 (sym tests ∙ spells_drill) in
+    let spells : map spelled xs ≡ codes "drill" ∷ word ∷ [] = ap (map spelled) (two_items xs x y two first second) ∙ cc in
+    drill_some (map spelled xs) word result spells written
+
+-- ---- told apart
+pub same_number : (words : List (List ℕ)) (n m : ℕ) → IsDrill words n → IsDrill words m → n ≡ m
+same_number words n m one other =
+    let a = one.are in
+    let b = other.are in
+    let word : one.word ≡ other.word = cc in
+    let first = read_back one.word n one.written in
+    let second = read_back other.word m other.written in
+    cc
+
+pub run_or_drill : (words : List (List ℕ)) (number : ℕ) → IsRun words → IsDrill words number → ⊥
+run_or_drill words number run drill = let are = drill.are in cc
+
+-- what holds of the drill that is run holds of any that the words name: it is the same
+pub for_number : {words : List (List ℕ)} {n : ℕ} (P : ℕ → Type 0) → IsDrill words n → P n → (m : ℕ) → IsDrill words m → P m
+for_number {words} {n} P known holds m asked = subst P (same_number words n m known asked) holds
+
+pub no_bad_script : (P : ℕ → Reason → Type 0) (status : Status) → IfBadScript status (λ line reason. ⊥) → IfBadScript status P
+no_bad_script P Done never = tt
+no_bad_script P CheckedNo never = tt
+no_bad_script P Usage never = tt
+no_bad_script P (BadScript line reason) never = absurd never
+no_bad_script P ReadFault never = tt
+no_bad_script P WriteFault never = tt
+no_bad_script P NoMemory never = tt
+no_bad_script P (TooLarge line) never = tt
+
+pub with_cause : {P : Type 0} (Q : ℕ → Reason → Type 0) (status : Status) → P → IfBadScript status Q → IfBadScript status (λ line reason. P × Q line reason)
+with_cause Q Done cause holds = tt
+with_cause Q CheckedNo cause holds = tt
+with_cause Q Usage cause holds = tt
+with_cause Q (BadScript line reason) cause holds = (cause, holds)
+with_cause Q ReadFault cause holds = tt
+with_cause Q WriteFault cause holds = tt
+with_cause Q NoMemory cause holds = tt
+with_cause Q (TooLarge line) cause holds = tt
+
+-- words of neither form
+pub unknown : {words : List (List ℕ)} → (IsRun words → ⊥) → ((number : ℕ) → IsDrill words number → ⊥) → IsKnown words → ⊥
+unknown run drill (inl is) = run is
+unknown run drill (inr named) = drill named.0 named.1

@@ -1,0 +1,4 @@
+pub mod AccountKeys
+pub mod Words
+pub mod Submits
+pub mod Turns

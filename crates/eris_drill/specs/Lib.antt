@@ -1,0 +1,4 @@
+pub mod Draws
+pub mod DrillLines
+pub mod DrillText
+pub mod Summaries

@@ -1,0 +1,3 @@
+pub mod Banks
+pub mod BankHistories
+pub mod Reading

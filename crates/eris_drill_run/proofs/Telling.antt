@@ -1,0 +1,123 @@
+-- What is due for a drill, and what its status then says. Used where the run of its script has ended.
+use Rattle.std.proofs.Common.{◌≡◌, ◌≢◌, ◌⊎◌, inl, inr, ◌≤◌, ◌+◌, ℕ, Option, Some, Result, Ok, Err, IfOk, List, count_by, ap, sym, ◌∙◌, subst, refl}
+use Rattle.std.specs.Io.KnownBytes.{Appends}
+use Rattle.eris_rules.specs.Good.{Good}
+use Rattle.eris_rules.specs.Reports.{report_of}
+use Rattle.eris_rules.specs.Runs.{run}
+use Rattle.eris_rules.specs.Worlds.{WorldState}
+use Rattle.eris_drill.specs.DrillLines.{bank}
+use Rattle.eris_drill.specs.DrillText.{drill_text}
+use Rattle.eris_drill.specs.Summaries.{IsTotal, is_submit, values_left}
+use Rattle.eris_drill_law.specs.Reading.{drill_events}
+use Rattle.eris_run.specs.declared.due.Due.{Due}
+use Rattle.eris_run.specs.declared.refused.Limit.{Limit}
+use Rattle.eris_run.specs.declared.refused.Refused.{Refused}
+use Rattle.eris_run.specs.declared.refused.Why.{Why}
+use Rattle.eris_run.specs.declared.refused.Why.TheVariants as whys
+use Rattle.eris_run.specs.declared.status.Status.{Status}
+use Rattle.eris_run.specs.declared.status.Status.TheVariants.{Done}
+use Rattle.eris_run.specs.Calls.{status_for, status_of}
+use Rattle.eris_run.specs.Dues.{IsRefusal}
+use Rattle.eris_run.specs.ScriptRuns.{Ran, outcome}
+use Rattle.eris_run.specs.Texts.{limit_text, refusal_text}
+use Rattle.eris_run.proofs.FirstRefusals.{first_refused}
+use Rattle.eris_drill_run.specs.Days.{EndsDay, IsAcceptedDrill, IsDueDay, IsSummaryOf, IsTextFor, MeetsLimit, SummarizesDay}
+
+-- ---- the laws, of every drill: how it ends, that it is refused for a limit alone, how much it submits, that it is good, and that
+-- it keeps its money
+abbrev pub DrillsEnd : Type 0
+DrillsEnd = (number : ℕ) → number ≤ 500 → (ran : Ran) → outcome (drill_text number) ≡ Ok ran → (ran.config ≡ bank) × (run bank (drill_events number) ≡ Some ran.world)
+
+abbrev pub DrillsMeetLimits : Type 0
+DrillsMeetLimits = (number : ℕ) → number ≤ 500 → (refused : Refused) → outcome (drill_text number) ≡ Err refused → (limit : Limit) × (refused.why ≡ whys.Limit limit)
+
+abbrev pub DrillsAccept : Type 0
+DrillsAccept = (number : ℕ) → number ≤ 500 → (world : WorldState) → run bank (drill_events number) ≡ Some world → outcome (drill_text number) ≡ Ok (record { config = bank; world = world })
+
+abbrev pub DrillsSubmit : Type 0
+DrillsSubmit = (number : ℕ) (world : WorldState) → run bank (drill_events number) ≡ Some world → count_by is_submit world.history ≡ 16 + number
+
+abbrev pub DrillsAreGood : Type 0
+DrillsAreGood = (number : ℕ) → number ≤ 500 → (world : WorldState) → run bank (drill_events number) ≡ Some world → Good world
+
+abbrev pub DrillsKeepMoney : Type 0
+DrillsKeepMoney = (number : ℕ) → number ≤ 500 → (world : WorldState) → run bank (drill_events number) ≡ Some world → (total : ℕ) → IsTotal (values_left (report_of bank world)) total → total ≡ 16000
+
+module _ {number : ℕ} (few : number ≤ 500) where
+  day_told : {taken taken' : Option (List ℕ)} (ran : Ran) (text : List ℕ) → DrillsEnd → DrillsSubmit → DrillsAreGood → DrillsKeepMoney → outcome (drill_text number) ≡ Ok ran → IsSummaryOf number ran.world text → Appends taken taken' text
+      → EndsDay number taken taken' Done
+  unfolding report_of
+  day_told {taken} {taken'} ran text ends submit good keep is summary written =
+      let happened = (ends number few ran is).1 in
+      record {
+        done = λ _. record {
+          world = ran.world;
+          ran = happened;
+          good = good number few ran.world happened;
+          submitted = submit number ran.world happened;
+          total = summary.total;
+          sum = summary.sum;
+          money = keep number few ran.world happened summary.total summary.sum;
+          written = subst (λ (some : List ℕ). Appends taken taken' some) summary.is written;
+        };
+        too_large = tt;
+        no_bad_script = tt;
+        no_read_fault = λ same. cc;
+        no_write_fault = λ same. cc;
+        no_memory = λ same. cc;
+        no_usage = λ same. cc;
+        no_check = λ same. cc;
+      }
+
+  limit_told : {taken taken' : Option (List ℕ)} (line : ℕ) (why : Why) (limit : Limit) → why ≡ whys.Limit limit → outcome (drill_text number) ≡ Err (record { line = line; why = why })
+      → Appends taken taken' (refusal_text line why) → EndsDay number taken taken' (status_of line why)
+  limit_told line (whys.Reason reason) limit same is written = absurd cc
+  limit_told line (whys.Limit limit) other same is written =
+      record {
+        done = λ done. absurd cc;
+        too_large = record {
+          limit = limit;
+          first = first_refused (drill_text number) (record { line = line; why = whys.Limit limit }) is;
+          refused = is;
+          written = written;
+        };
+        no_bad_script = tt;
+        no_read_fault = λ equal. cc;
+        no_write_fault = λ equal. cc;
+        no_memory = λ equal. cc;
+        no_usage = λ equal. cc;
+        no_check = λ equal. cc;
+      }
+
+  -- ---- what is due for what comes of the drill's bytes
+  pub day_due : DrillsEnd → DrillsSubmit → DrillsAreGood → DrillsKeepMoney → (ran : Ran) (due : Due) → outcome (drill_text number) ≡ Ok ran → due.status ≡ Done → IsSummaryOf number ran.world due.text
+      → IsDueDay number due
+  day_due ends submit good keep ran due is done summary =
+      record {
+        status = done ∙ sym (ap status_for is);
+        text = subst (λ (found : Result Ran Refused). IsTextFor number found due.text) (sym is) summary;
+        ends = λ taken taken' written. subst (λ (status : Status). EndsDay number taken taken' status) (sym done) (day_told ran due.text ends submit good keep is summary written);
+        accepted = λ world ran. inl done;
+      }
+
+  pub line_due : DrillsMeetLimits → DrillsAccept → (refused : Refused) (due : Due) → outcome (drill_text number) ≡ Err refused → IsRefusal refused due → IsDueDay number due
+  line_due limits accept refused due is refusal =
+      let met = limits number few refused is in
+      record {
+        status = refusal.status ∙ sym (ap status_for is);
+        text = subst (λ (found : Result Ran Refused). IsTextFor number found due.text) (sym is) refusal.text;
+        ends = λ taken taken' written. subst (λ (status : Status). EndsDay number taken taken' status) (sym refusal.status)
+            (limit_told refused.line refused.why met.0 met.1 is (subst (λ (text : List ℕ). Appends taken taken' text) refusal.text written));
+        accepted = λ world ran. (let other = accept number few world ran in absurd cc);
+      }
+
+  -- ---- and for what the run of the script answers
+  pub days_due : {E : Type 0} → DrillsEnd → DrillsSubmit → DrillsAreGood → DrillsKeepMoney → (ran : Ran) (result : Result Due E) → outcome (drill_text number) ≡ Ok ran
+      → IfOk result (λ due. (due.status ≡ Done) × IsSummaryOf number ran.world due.text) → IfOk result (IsDueDay number)
+  days_due ends submit good keep ran (Ok due) is ended = day_due ends submit good keep ran due is ended.0 ended.1
+  days_due ends submit good keep ran (Err error) is ended = tt
+
+  pub lines_due : {E : Type 0} → DrillsMeetLimits → DrillsAccept → (refused : Refused) (result : Result Due E) → outcome (drill_text number) ≡ Err refused → IfOk result (IsRefusal refused)
+      → IfOk result (IsDueDay number)
+  lines_due limits accept refused (Ok due) is refusal = line_due limits accept refused due is refusal
+  lines_due limits accept refused (Err error) is refusal = tt

@@ -1,0 +1,85 @@
+-- What the run of a drill answers and writes. In the records below `taken` and `taken'` are the bytes that the sink has taken, as
+-- the call begins and as it returns, where they are known.
+use Rattle.std.specs.Prelude.{◌≡◌, ◌≢◌, ◌⊎◌, ℕ, ◌+◌, Option, Some, Result, Ok, Err, List, count_by, length}
+use Rattle.std.specs.Io.KnownBytes.{Appends}
+use Rattle.eris_base.specs.Transfers.{TakesFront}
+use Rattle.eris_rules.specs.Good.{Good}
+use Rattle.eris_rules.specs.Reports.{report_of}
+use Rattle.eris_rules.specs.Runs.{run}
+use Rattle.eris_rules.specs.Worlds.{WorldState}
+use Rattle.eris_drill.specs.DrillLines.{bank, drill_lines}
+use Rattle.eris_drill.specs.DrillText.{drill_text}
+use Rattle.eris_drill.specs.Summaries.{IsTotal, is_submit, summary_text, values_left}
+use Rattle.eris_drill_law.specs.Reading.{drill_events}
+use Rattle.eris_run.specs.declared.due.Due.{Due}
+use Rattle.eris_run.specs.declared.refused.Limit.{Limit}
+use Rattle.eris_run.specs.declared.refused.Refused.{Refused}
+use Rattle.eris_run.specs.declared.refused.Why.TheVariants as why
+use Rattle.eris_run.specs.declared.status.Status.{Status}
+use Rattle.eris_run.specs.declared.status.Status.TheVariants.{Done, CheckedNo, Usage, ReadFault, WriteFault, NoMemory}
+use Rattle.eris_run.specs.Calls.{IfBadScript, IfTooLarge, status_for}
+use Rattle.eris_run.specs.FirstRefused.{IsFirstRefused}
+use Rattle.eris_run.specs.ScriptRuns.{Ran, outcome}
+use Rattle.eris_run.specs.Texts.{limit_text, refusal_text}
+
+-- the lines of a drill's script, its header among them
+abbrev pub line_count : ℕ → ℕ
+line_count number = length (drill_lines number) + 1
+
+-- the text is the summary of the day after which the world is this
+pub record IsSummaryOf (number : ℕ) (world : WorldState) (text : List ℕ) : Type 0 where
+  pub total : ℕ
+  pub sum : IsTotal (values_left (report_of bank world)) total
+  pub is : text ≡ summary_text number (line_count number) (report_of bank world) total
+
+-- DONE: this is the world after the events of the drill, and it is good. All that was asked was submitted, and the bank has the
+-- money that it had in the morning. What was written is the summary of that very world.
+pub record SummarizesDay (number : ℕ) (taken taken' : Option (List ℕ)) : Type 0 where
+  pub world : WorldState
+  pub ran : run bank (drill_events number) ≡ Some world
+  pub good : Good world
+  pub submitted : count_by is_submit (report_of bank world).history ≡ 16 + number
+  pub total : ℕ
+  pub sum : IsTotal (values_left (report_of bank world)) total
+  pub money : total ≡ 16000
+  pub written : Appends taken taken' (summary_text number (line_count number) (report_of bank world) total)
+
+-- TOO LARGE: this is the first line of the drill's script that is refused, since the world would send more than may be sent
+pub record MeetsLimit (number : ℕ) (taken taken' : Option (List ℕ)) (line : ℕ) : Type 0 where
+  pub limit : Limit
+  pub first : IsFirstRefused (drill_text number) line (why.Limit limit)
+  pub refused : outcome (drill_text number) ≡ Err (record { line = line; why = why.Limit limit })
+  pub written : Appends taken taken' (limit_text line limit)
+
+-- the text that is due for what comes of a drill: the summary of its day, or the line that is refused
+abbrev pub IsTextFor : ℕ → Result Ran Refused → List ℕ → Type 0
+IsTextFor number (Ok ran) text = IsSummaryOf number ran.world text
+IsTextFor number (Err refused) text = text ≡ refusal_text refused.line refused.why
+
+-- WRITE FAULT: of the text that is due only a front was taken
+pub record StopsTelling (number : ℕ) (taken taken' : Option (List ℕ)) : Type 0 where
+  pub text : List ℕ
+  pub due : IsTextFor number (outcome (drill_text number)) text
+  pub front : TakesFront taken taken' text
+
+-- ACCEPTED: a drill of which no event is refused is answered Done or by want of memory
+abbrev pub IsAcceptedDrill : ℕ → Status → Type 0
+IsAcceptedDrill number status = (world : WorldState) → run bank (drill_events number) ≡ Some world → (status ≡ Done) ⊎ (status ≡ NoMemory)
+
+-- all that a status says where its whole text was written
+pub record EndsDay (number : ℕ) (taken taken' : Option (List ℕ)) (status : Status) : Type 0 where
+  pub done : status ≡ Done → SummarizesDay number taken taken'
+  pub too_large : IfTooLarge status (MeetsLimit number taken taken')
+  pub no_bad_script : IfBadScript status (λ line reason. ⊥)
+  pub no_read_fault : status ≢ ReadFault
+  pub no_write_fault : status ≢ WriteFault
+  pub no_memory : status ≢ NoMemory
+  pub no_usage : status ≢ Usage
+  pub no_check : status ≢ CheckedNo
+
+-- what is due: the status and the text are those for what comes of the drill
+pub record IsDueDay (number : ℕ) (due : Due) : Type 0 where
+  pub status : due.status ≡ status_for (outcome (drill_text number))
+  pub text : IsTextFor number (outcome (drill_text number)) due.text
+  pub ends : (taken taken' : Option (List ℕ)) → Appends taken taken' due.text → EndsDay number taken taken' due.status
+  pub accepted : IsAcceptedDrill number due.status

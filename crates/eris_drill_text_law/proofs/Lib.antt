@@ -1,0 +1,4 @@
+pub mod Below
+pub mod LineBytes
+pub mod DrillScripts
+pub mod DrillSizes
