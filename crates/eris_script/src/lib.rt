@@ -45,6 +45,4 @@ pub use report::{ReplicaLine, ReplicaState, Report};
 pub use report_text::print_report;
 
 #[cfg(test)]
-mod grammar_tests;
-#[cfg(test)]
 mod tests;
