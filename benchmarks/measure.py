@@ -4,7 +4,8 @@
 usage: measure.py [PROGRAM]     the program is crates/eris/out/eris where none is named
 
 - `retries`: one submission and retries of it, up to the most packets that a run may send. The time per line
-  should stay the same, and the memory is compared with the bytes of the frames that the world keeps.
+  should stay the same. The memory, less that of a script of as many comments, is compared with the bytes of the
+  frames that the world keeps.
 - `deliveries`: many packets that wait, delivered one after another. A delivery must not look for what was
   delivered before, so the time per delivery should stay the same.
 - `busy`: submissions over 4 shards of 3 replicas, each followed by its deliveries. The time of each next
@@ -56,9 +57,9 @@ def run(program, script):
 
 def retries(program):
     head = b"eris 1 1 0 1\nsubmit 0 get 0/a\n"
-    _, empty = run(program, head)
     first = None
     for count in (32768, 65536, 131072, 262143):
+        _, empty = run(program, head + b"# try 0 1\n" * count)
         seconds, most = run(program, head + b"retry 0 1\n" * count)
         each = seconds / count * 1e6
         first = first or each
