@@ -25,6 +25,3 @@ pub use feed::{FrameFeed, pieces_join};
 pub use framing::{FrameFault, put_frame};
 pub use message::Message;
 pub use outgoing::Outgoing;
-
-#[cfg(test)]
-mod tests;
