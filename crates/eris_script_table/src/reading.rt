@@ -1,6 +1,6 @@
 ghost use Rattle.std.specs.Prelude.{◌≡◌, ◌⊎◌};
 
-use eris_base::{Dup, NoMemory};
+use eris_base::{Dup, NoMemory, Same};
 use eris_script::{Event, Line, LineFault, parse_header, parse_line, print_event};
 use std::alloc::Global;
 
@@ -30,6 +30,26 @@ pub(crate) fn line(alloc: Global, version: u8, text: &str) -> anyhow::Result<Str
     }
 }
 
+/// The event that the line says in this version, with the names of its fields.
+pub(crate) fn event(alloc: Global, version: u8, text: &str) -> anyhow::Result<String>
+    requires { (version ≡ 1) ⊎ (version ≡ 2) }
+{
+    match parse_line(alloc, version, text.as_bytes()) {
+        Ok(Line::One(event)) => shown(alloc, &event),
+        _ => Ok(format!(in alloc; "no event")?),
+    }
+}
+
+fn shown(alloc: Global, event: &Event) -> anyhow::Result<String> {
+    let same = is_copied(alloc, event)?;
+    Ok(format!(in alloc; "{event:?}, copied: {same}")?)
+}
+
+fn is_copied(alloc: Global, event: &Event) -> Result<bool, NoMemory> {
+    let copy = event.copy(alloc)?;
+    Ok(copy.same(event))
+}
+
 fn counted(alloc: Global, event: Event, times: u32) -> anyhow::Result<String> {
     let written = written(alloc, event)?;
     Ok(format!(in alloc; "{written}, {times} times")?)
@@ -37,9 +57,8 @@ fn counted(alloc: Global, event: Event, times: u32) -> anyhow::Result<String> {
 
 /// The event as a line of each version.
 fn written(alloc: Global, event: Event) -> anyhow::Result<String> {
-    let copy = event.copy(alloc)?;
     let one = print_event(alloc, 1, &event)?;
-    let two = print_event(alloc, 2, &copy)?;
+    let two = print_event(alloc, 2, &event)?;
     let one = str::from_utf8(one.as_slice())?;
     let two = str::from_utf8(two.as_slice())?;
     Ok(format!(in alloc; "{one} = {two}")?)
