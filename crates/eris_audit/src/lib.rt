@@ -16,6 +16,3 @@ pub use order_line::OrderLine;
 pub use outcome::Outcome;
 pub use serial_store::SerialStore;
 pub use verdict::Verdict;
-
-#[cfg(test)]
-mod tests;

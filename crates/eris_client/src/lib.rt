@@ -19,6 +19,3 @@ mod steps;
 pub use client::Client;
 pub use fault::RetryFault;
 pub use known::knows_txn;
-
-#[cfg(test)]
-mod tests;

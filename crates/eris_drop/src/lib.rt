@@ -10,6 +10,3 @@ mod request;
 pub use drop_count::DropCount;
 pub use drop_note::DropNote;
 pub use request::{RequestAnswer, answer_request};
-
-#[cfg(test)]
-mod tests;

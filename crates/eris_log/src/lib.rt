@@ -14,6 +14,3 @@ mod walk;
 pub use entry::Entry;
 pub use merge::Merge;
 pub use part::Part;
-
-#[cfg(test)]
-mod tests;

@@ -9,8 +9,6 @@ mod run;
 mod script_run;
 mod status;
 mod telling;
-#[cfg(test)]
-mod tests;
 mod texts;
 
 pub use due::{Due, refuse_line};

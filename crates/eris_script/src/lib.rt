@@ -43,6 +43,3 @@ pub use parse::parse_line;
 pub use reason::Reason;
 pub use report::{ReplicaLine, ReplicaState, Report};
 pub use report_text::print_report;
-
-#[cfg(test)]
-mod tests;

@@ -13,6 +13,3 @@ mod stamping;
 pub use sequencer::Sequencer;
 pub use sequencers::Sequencers;
 pub use stamp_fault::StampFault;
-
-#[cfg(test)]
-mod tests;

@@ -12,6 +12,3 @@ mod run;
 
 pub use eris_locks::Done;
 pub use lock_store::LockStore;
-
-#[cfg(test)]
-mod tests;

@@ -3,8 +3,6 @@
 #![tactic(auto)]
 
 mod ack_tally;
-#[cfg(test)]
-mod tests;
 mod view_tally;
 
 pub use ack_tally::AckTally;
