@@ -1,3 +1,4 @@
+pub mod AnsweredLaws
 pub mod ItemByItem
 pub mod Entries
 pub mod Fits

@@ -7,7 +7,7 @@ ghost use Rattle.eris_rules.specs.Assembling.{assemble};
 ghost use Rattle.eris_rules.specs.Clients.{answer_of_shard, op_answers_in, values_in};
 
 use crate::shards::count_of;
-use eris_base::{NoMemory, Row, ShardId};
+use eris_base::{Dup, NoMemory, Row, ShardId};
 use eris_txn::{Answer, OpAnswer};
 use std::alloc::Global;
 
@@ -78,6 +78,17 @@ fn answer_of(counted: &[(ShardId, Answer)], shard: ShardId) -> Option<&Answer>
         .iter()
         .find(|pair| pair.0 == shard)
         .map(|pair| &pair.1)
+}
+
+/// The answers of the counted shards.
+pub fn all_answers(alloc: Global, counted: &[(ShardId, Answer)]) -> Result<Row<Answer>, NoMemory>
+    ensures { IfOk result (λ answers. answers ≡ map (λ pair. pair.1) counted.now) }
+{
+    let mut answers = Row::new(alloc);
+    for pair in counted {
+        answers.push(pair.1.copy(alloc)?)?;
+    }
+    Ok(answers)
 }
 
 /// Whether some shard aborted.

@@ -2,6 +2,7 @@
 ghost use Rattle.std.specs.Prelude.{◌≡◌, IfOk};
 ghost use Rattle.eris_rules.specs.ClientStates.{body_of, with_transaction};
 ghost use Rattle.eris_rules.specs.Clients.{goes_on, hears_late_of, hears_vote_of, item_shards, late_row, vote_row};
+ghost use Rattle.eris_client.specs.Answered.{IsAnswered};
 ghost use Rattle.eris_client.specs.ClientValues.{after};
 
 use crate::asking::Step;
@@ -34,6 +35,7 @@ impl State {
         vote: Vote,
         transaction: Transaction,
     ) -> Result<Step, NoMemory>
+        requires { IsAnswered transaction }
         ensures { IfOk result (λ out. (self.new, out) ≡ after self.old
             (hears_vote_of self.old.me (with_transaction self.old.state id transaction) id phase vote transaction)) }
     {
@@ -77,6 +79,7 @@ impl State {
         answer: Answer,
         transaction: Transaction,
     ) -> Result<Step, NoMemory>
+        requires { IsAnswered transaction }
         ensures { IfOk result (λ out. (self.new, out) ≡ after self.old
             (hears_late_of self.old.me (with_transaction self.old.state id transaction) id phase shard answer transaction)) }
     {
@@ -100,7 +103,8 @@ impl State {
         transaction: Transaction,
         shards: &[ShardId],
     ) -> Result<Step, NoMemory>
-        requires { shards.now ≡ item_shards (body_of transaction.course) }
+        requires shards { shards.now ≡ item_shards (body_of transaction.course) }
+        requires answered { IsAnswered transaction }
         ensures { IfOk result (λ out. (self.new, out) ≡ after self.old (goes_on self.old.me self.old.state id transaction)) }
     {
         if is_complete(&transaction, shards) {

@@ -3,6 +3,7 @@ ghost use Rattle.std.specs.Option.{option_copied};
 ghost use Rattle.eris_rules.specs.ClientStates.{first_client, next_id, transaction_at, with_transaction};
 ghost use Rattle.eris_rules.specs.Clients.{own_id};
 ghost use Rattle.eris_rules.specs.Happenings.{plan_of_transaction};
+ghost use Rattle.eris_client.specs.Answered.{IsAnswered};
 
 use crate::courses::plan_of;
 use eris_base::{ClientId, Config, NoMemory, TxnId};
@@ -12,8 +13,8 @@ use std::alloc::Global;
 use std::collections::BTreeMap;
 use std::marker::Model;
 
-/// What a client keeps: how many transactions it submitted, and its transactions by id. Contracts see it as
-/// which client it is and the rules' state.
+/// What a client keeps: how many transactions it submitted, and its transactions by id, with answers that
+/// their halves can have got. Contracts see it as which client it is and the rules' state.
 #[derive(Debug, Drop)]
 pub struct State {
     pub alloc: Global,
@@ -24,9 +25,7 @@ pub struct State {
 }
 
 impl Model for State {
-    ghost use Rattle.std.specs.List.Sorted.{IsStrictlySortedBy};
-    ghost use Rattle.std.specs.Map.{keys_of};
-    ghost use Rattle.eris_rules.specs.ClientStates.{txn_id_cmp};
+    ghost use Rattle.eris_client.specs.Answered.{AreKept};
     ghost use Rattle.eris_client.specs.ClientValues.{StateValue};
 
     ghost Value = { StateValue };
@@ -36,7 +35,7 @@ impl Model for State {
       state = record { submitted = s.submitted; transactions = s.transactions.entries };
     } };
 
-    ghost invariant = { λ s. IsStrictlySortedBy txn_id_cmp (keys_of s.transactions.entries) };
+    ghost invariant = { λ s. AreKept s.transactions.entries };
 }
 
 impl State {
@@ -96,6 +95,7 @@ impl State {
     /// Puts a transaction, in the place of the one that it has of this id.
     #[tactic(auto, unfolding(eris_rules::specs::ClientStates::with_transaction))]
     pub fn put(&mut self, id: TxnId, transaction: Transaction) -> Result<(), NoMemory>
+        requires { IsAnswered transaction }
         ensures { OnOk result (self.new ≡ record self.old { state = with_transaction self.old.state id transaction }) }
     {
         self.transactions.insert(id, transaction)?;
@@ -108,6 +108,7 @@ impl State {
         ensures found { result ≡ transaction_at self.old.state id }
         ensures none { IfNone result (self.new ≡ self.old) }
         ensures some { IfSome result (λ transaction. self.old ≡ record self.new { state = with_transaction self.new.state id transaction }) }
+        ensures answered { IfSome result IsAnswered }
     {
         self.transactions.remove(&id)
     }

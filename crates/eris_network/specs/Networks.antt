@@ -1,8 +1,8 @@
 -- What a network is to contracts.
-use Rattle.std.specs.Prelude.{ℕ, Bool, Option, List, option_map, slice_get}
+use Rattle.std.specs.Prelude.{⊤, ℕ, Bool, Option, Some, None, List, option_map, slice_get}
 use Rattle.eris_msg.specs.declared.outgoing.Outgoing.{Outgoing}
 use Rattle.eris_msg.specs.Frames.{frame}
-use Rattle.eris_msg.specs.Spellings.{spelling}
+use Rattle.eris_msg.specs.Spellings.{IsSpelling, spelling}
 
 -- every message that was ever sent, in order of sending; the numbers of those that wait, ascending; and whether
 -- it is spent
@@ -14,3 +14,10 @@ pub record NetworkValue : Type 0 where
 -- the frame of the spelling of the sent message of a number
 abbrev pub frame_at : List Outgoing → ℕ → Option (List ℕ)
 frame_at sent number = option_map (λ one. frame (spelling one.message)) (slice_get sent number)
+
+-- a sent message has a spelling, which is these bytes; what wasn't sent has none
+abbrev pub IsSpelledBy : Option Outgoing → Option (List ℕ) → Type 0
+IsSpelledBy None None = ⊤
+IsSpelledBy None (Some bytes) = ⊥
+IsSpelledBy (Some one) None = ⊥
+IsSpelledBy (Some one) (Some bytes) = IsSpelling one.message bytes

@@ -1,11 +1,11 @@
 ghost use Rattle.std.specs.Prelude.{◌≡◌, ◌<◌, ◌≤◌, ◌+◌, ◌++◌, ◌∷◌, [], Some, length, slice_get, option_map, OnOk, IfOk, IfErr, true, drop};
 ghost use Rattle.eris_in_place.specs.MessageRanges.{MessageFits, SendsFit};
-ghost use Rattle.eris_msg.specs.Spellings.{message_fits, spelling};
+ghost use Rattle.eris_msg.specs.Spellings.{IsSpelling, message_fits, spelling};
 ghost use Rattle.eris_rules.specs.Refusals.{frame_sizes};
 ghost use Rattle.eris_msg.specs.Frames.{frame};
 ghost use Rattle.eris_network.specs.KeptFrames.{IsKept, outgoing_of, frame_in, addressee_in};
 ghost use Rattle.eris_network.specs.Limits.{IsTooLong, IsTooLongSpelled, IsTooMuch, byte_limit, packet_limit};
-ghost use Rattle.eris_network.specs.Networks.{frame_at};
+ghost use Rattle.eris_network.specs.Networks.{IsSpelledBy, frame_at};
 
 use crate::counted::is_counted;
 use crate::kept::Kept;
@@ -120,6 +120,17 @@ impl Frames {
         frame_in(self.kept.as_slice(), number)
     }
 
+    /// The bytes of the message of this number, if so many were sent.
+    pub fn bytes(&self, number: usize) -> Option<&[u8]>
+        ensures { IsSpelledBy (slice_get self.now number) (option_map (λ bytes. bytes.now) result) }
+    {
+        if number >= self.kept.len() {
+            return None;
+        }
+        let kept = &self.kept.as_slice()[number];
+        Some(bytes_of(kept))
+    }
+
     /// The node that the message of this number goes to, if so many were sent.
     #[tactic(auto, using(crate::proofs::KeptLaws::to_at_kept))]
     pub fn addressee(&self, number: usize) -> Option<Node>
@@ -163,11 +174,19 @@ fn message_of(alloc: Global, kept: &Kept) -> Result<Message, NoMemory>
     ensures exact { IfOk result (λ message. message ≡ (outgoing_of kept.now).message) }
     ensures fits { IfOk result (λ message. message_fits message ≡ true) }
 {
-    match decode(alloc, past_length(kept.frame.as_slice())) {
+    match decode(alloc, bytes_of(kept)) {
         Ok(message) => Ok(message),
         Err(DecodeFault::NoMemory) => Err(NoMemory),
         Err(DecodeFault::Bad { .. }) => unreachable!(),
     }
+}
+
+/// The bytes of the message, which stand behind the length of its frame.
+fn bytes_of(kept: &Kept) -> &[u8]
+    requires { IsKept kept.now }
+    ensures { IsSpelling (outgoing_of kept.now).message result.now }
+{
+    past_length(kept.frame.as_slice())
 }
 
 fn past_length(frame: &[u8]) -> &[u8]

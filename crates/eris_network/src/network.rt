@@ -4,7 +4,7 @@ ghost use Rattle.eris_in_place.specs.MessageRanges.{SendsFit};
 ghost use Rattle.eris_msg.specs.Spellings.{message_fits};
 ghost use Rattle.eris_rules.specs.Refusals.{limit_met};
 ghost use Rattle.eris_network.specs.Limits.{IsMetBy};
-ghost use Rattle.eris_network.specs.Networks.{frame_at};
+ghost use Rattle.eris_network.specs.Networks.{IsSpelledBy, frame_at};
 
 use crate::frames::{Frames, PACKET_LIMIT};
 use crate::send_fault::SendFault;
@@ -66,6 +66,14 @@ impl Network {
         ensures { option_map (λ bytes. bytes.now) result ≡ frame_at self.now.sent number }
     {
         self.frames.frame(number as usize)
+    }
+
+    /// The bytes of the message of this number: its frame without the frame's head. None exactly where no such
+    /// message was sent. It takes no memory.
+    pub fn bytes(&self, number: u32) -> Option<&[u8]>
+        ensures { IsSpelledBy (slice_get self.now.sent number) (option_map (λ bytes. bytes.now) result) }
+    {
+        self.frames.bytes(number as usize)
     }
 
     /// The node that the message of this number goes to. None exactly where no such message was sent. It

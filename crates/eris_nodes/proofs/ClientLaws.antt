@@ -42,6 +42,12 @@ states_of-set [] i next = refl
 states_of-set (one ∷ clients) zero next = refl
 states_of-set (one ∷ clients) (suc i) next = ap (λ (states : List ClientState). one.state ∷ states) (states_of-set clients i next)
 
+-- where a client's state stays, all of them do
+pub clients_stay : (clients : List ClientValue) (i : ℕ) (one next : ClientValue) → one ≡ get_or clients i one → next.state ≡ one.state → states_of (slice_set clients i next) ≡ states_of clients
+clients_stay [] i one next e k = refl
+clients_stay (first ∷ clients) zero one next e k = ap (λ (state : ClientState). state ∷ states_of clients) (k ∙ ap (λ (z : ClientValue). z.state) e)
+clients_stay (first ∷ clients) (suc i) one next e k = ap (λ (states : List ClientState). first.state ∷ states) (clients_stay clients i one next e k)
+
 pub found_at : (clients : List ClientValue) (client : ClientId) (one : ClientValue) → client.0 < length clients → one ≡ get_or clients client.0 one → client_at (states_of clients) client ≡ Some one.state
 unfolding client_at
 found_at clients client one lt e =

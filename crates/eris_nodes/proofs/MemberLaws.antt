@@ -41,6 +41,12 @@ states_of-set [] i next = refl
 states_of-set (one ∷ members) zero next = refl
 states_of-set (one ∷ members) (suc i) next = ap (λ states. one.state ∷ states) (states_of-set members i next)
 
+-- where a replica's state stays, all of them do
+pub members_stay : (members : List ReplicaValue) (i : ℕ) (one next : ReplicaValue) → one ≡ get_or members i one → next.state ≡ one.state → states_of (slice_set members i next) ≡ states_of members
+members_stay [] i one next e k = refl
+members_stay (first ∷ members) zero one next e k = ap (λ state. state ∷ states_of members) (k ∙ ap (λ (z : ReplicaValue). z.state) e)
+members_stay (first ∷ members) (suc i) one next e k = ap (λ states. first.state ∷ states) (members_stay members i one next e k)
+
 -- the member of an index is itself, and unspent
 pub member_at : (config : ConfigValue) (shard : ShardId) (members : List ReplicaValue) (i : ℕ) (one : ReplicaValue) → AreMembers config shard 0 members
     → i < length members → one ≡ get_or members i one → IsMember config shard i one

@@ -47,6 +47,12 @@ rows_of-set [] i next = refl
 rows_of-set (row ∷ rows) zero next = refl
 rows_of-set (row ∷ rows) (suc i) next = ap (λ (states : List (List ReplicaState)). row.states ∷ states) (rows_of-set rows i next)
 
+-- where the states of a shard's replicas stay, all do
+pub rows_stay : (rows : List MembersValue) (i : ℕ) (row next : MembersValue) → row ≡ get_or rows i row → next.states ≡ row.states → rows_of (slice_set rows i next) ≡ rows_of rows
+rows_stay [] i row next e k = refl
+rows_stay (first ∷ rows) zero row next e k = ap (λ (states : List ReplicaState). states ∷ rows_of rows) (k ∙ ap (λ (z : MembersValue). z.states) e)
+rows_stay (first ∷ rows) (suc i) row next e k = ap (λ (states : List (List ReplicaState)). first.states ∷ states) (rows_stay rows i row next e k)
+
 set_same : (rows : List (List ReplicaState)) (i : ℕ) (states : List ReplicaState) → slice_get rows i ≡ Some states → slice_set rows i states ≡ rows
 set_same [] i states h = refl
 set_same (row ∷ rows) zero states h = let same : row ≡ states = cc in ap (λ (z : List ReplicaState). z ∷ rows) (sym same)

@@ -6,11 +6,11 @@ ghost use Rattle.eris_nodes.specs.Acts.{CanAct, acts};
 
 use eris_base::{Dup, NoMemory, Row, TxnId};
 use eris_client::{Client, RetryFault};
-use eris_msg::{Message, Outgoing};
+use eris_msg::Outgoing;
 use eris_txn::{HistoryEvent, Key, Txn};
 use std::alloc::Global;
 
-/// What a client does, of itself or by a message.
+/// What a client does of itself.
 #[derive(Debug, Drop)]
 pub enum Act {
     /// It submits a transaction.
@@ -19,11 +19,9 @@ pub enum Act {
     Retry(u32),
     /// It asks for the abort of another client's transaction, with these keys.
     Abort(TxnId, Row<Key>),
-    /// A message comes to it.
-    Hear(Message),
 }
 
-/// What an act sends, and what happened by it.
+/// What a client sends, and what happened at it.
 pub type Told = (Row<Outgoing>, Option<HistoryEvent>);
 
 /// The client acts.
@@ -41,7 +39,6 @@ pub fn perform(alloc: Global, one: &mut Client, act: Act) -> Result<Told, NoMemo
             let sends = one.abort(id, keys)?;
             Ok((sends, None))
         }
-        Act::Hear(message) => one.step(message),
     }
 }
 

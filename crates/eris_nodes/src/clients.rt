@@ -1,9 +1,11 @@
-ghost use Rattle.std.specs.Prelude.{◌≡◌, ◌==◌, None, false, true, is_some, replicate, IfOk, IfSome, OnErr, OnOk};
+ghost use Rattle.std.specs.Prelude.{◌≡◌, ◌==◌, [], None, false, true, is_some, replicate, IfOk, IfSome, OnErr, OnOk};
 ghost use Rattle.std.specs.List.{list_any};
 ghost use Rattle.eris_in_place.specs.MessageRanges.{SendsFit};
+ghost use Rattle.eris_msg.specs.declared.message.Message.{Message};
 ghost use Rattle.eris_msg.specs.Fields as f;
+ghost use Rattle.eris_msg.specs.Spellings.{IsSpelling};
 ghost use Rattle.eris_rules.specs.ClientStates.{first_client, transaction_at};
-ghost use Rattle.eris_rules.specs.Clients.{own_id};
+ghost use Rattle.eris_rules.specs.Clients.{client_step, own_id};
 ghost use Rattle.eris_rules.specs.Happenings.{plan_of_transaction};
 ghost use Rattle.eris_nodes.specs.ClientRows.{AreClients, clients_act, keys_in, plan_keys, states_of, transaction_in};
 ghost use Rattle.eris_nodes.specs.Acts.{acts};
@@ -50,7 +52,7 @@ impl Clients {
         })
     }
 
-    /// A client acts; where there is none nothing is done and nothing sent. After [`NoMemory`] they are spent.
+    /// A client acts of itself; where there is none nothing is done and nothing sent. After [`NoMemory`] they are spent.
     pub fn act(&mut self, client: ClientId, act: Act) -> Result<Told, NoMemory>
         requires unspent { self.old.spent ≡ false }
         requires can { CanActAt self.old.config self.old.states client act }
@@ -68,6 +70,31 @@ impl Clients {
         self.spent = true;
         let one = &mut self.clients[at];
         let told = perform(self.alloc, one, act)?;
+        self.spent = false;
+        Ok(told)
+    }
+
+    /// A client takes the message that the bytes spell. Bytes that spell none change nothing, send nothing and
+    /// let nothing happen; nor does any message where there is no such client. After [`NoMemory`] they are
+    /// spent.
+    pub fn receive(&mut self, client: ClientId, bytes: &[u8]) -> Result<Told, NoMemory>
+        requires { self.old.spent ≡ false }
+        ensures message { (message : Message) → IsSpelling message bytes.now → IfOk result (λ out.
+            record { states = self.new.states; sends = out.0; event = out.1 }
+            ≡ clients_act self.old.config self.old.states client (λ me state. client_step me state message)) }
+        ensures noise { ((message : Message) → IsSpelling message bytes.now → ⊥) → IfOk result (λ out.
+            (out.0 ≡ []) × (out.1 ≡ None) × (self.new.states ≡ self.old.states)) }
+        ensures fits { IfOk result (λ out. SendsFit out.0) }
+        ensures stays { OnOk result (self.new ≡ record self.old { states = self.new.states }) }
+        ensures err { OnErr result (self.new.spent ≡ true) }
+    {
+        let at = client.0 as usize;
+        if at >= self.clients.len() {
+            return Ok((Row::new(self.alloc), None));
+        }
+        self.spent = true;
+        let one = &mut self.clients[at];
+        let told = one.receive(bytes)?;
         self.spent = false;
         Ok(told)
     }

@@ -1,7 +1,10 @@
-ghost use Rattle.std.specs.Prelude.{◌≡◌, false, true, IfOk, OnErr, OnOk, IsTrue, slice_get, ◌++◌};
+ghost use Rattle.std.specs.Prelude.{◌≡◌, [], false, true, IfOk, OnErr, OnOk, IsTrue, slice_get, ◌++◌};
 ghost use Rattle.std.specs.List.{list_any};
 ghost use Rattle.eris_in_place.specs.MessageRanges.{SendsFit};
+ghost use Rattle.eris_msg.specs.declared.message.Message.{Message};
+ghost use Rattle.eris_msg.specs.Spellings.{IsSpelling};
 ghost use Rattle.eris_replica.specs.ReplicaValues.{InputFits};
+ghost use Rattle.eris_rules.specs.declared.replica_input.ReplicaInput.TheVariants as inputs;
 ghost use Rattle.eris_rules.specs.Known.{knows_shard};
 ghost use Rattle.eris_rules.specs.Reports.{line_state, replica_line, shard_lines};
 ghost use Rattle.eris_rules.specs.WorldOrders.{is_held_by};
@@ -78,6 +81,29 @@ impl Members {
         self.spent = true;
         let member = &mut self.members[at];
         let sends = member.step(input)?;
+        self.spent = false;
+        Ok(sends)
+    }
+
+    /// The replica of this number takes the message that the bytes spell, as by [`step`](Members::step); where
+    /// they spell none nothing is done and nothing sent.
+    pub fn receive(&mut self, replica: ReplicaId, bytes: &[u8]) -> Result<Row<Outgoing>, NoMemory>
+        requires { self.old.spent ≡ false }
+        ensures message { (message : Message) → IsSpelling message bytes.now → IfOk result (λ sends. record { states = self.new.states; sends = sends }
+            ≡ members_step (identity self.old.config self.old.shard replica.0) self.old.states (inputs.Message message)) }
+        ensures noise { ((message : Message) → IsSpelling message bytes.now → ⊥) → IfOk result (λ sends.
+            (sends ≡ []) × (self.new.states ≡ self.old.states)) }
+        ensures fits { IfOk result (λ sends. SendsFit sends) }
+        ensures stays { OnOk result (self.new ≡ record self.old { states = self.new.states }) }
+        ensures err { OnErr result (self.new.spent ≡ true) }
+    {
+        let at = replica.0 as usize;
+        if at >= self.members.len() {
+            return Ok(Row::new(self.alloc));
+        }
+        self.spent = true;
+        let member = &mut self.members[at];
+        let sends = member.receive(bytes)?;
         self.spent = false;
         Ok(sends)
     }

@@ -1,9 +1,12 @@
-ghost use Rattle.std.specs.Prelude.{◌≡◌, false, true, IfOk, OnErr, OnOk};
+ghost use Rattle.std.specs.Prelude.{◌≡◌, [], false, true, IfOk, OnErr, OnOk};
 ghost use Rattle.std.specs.List.{list_any};
 ghost use Rattle.eris_base.specs.ConfigLimits.{ConfigValue};
 ghost use Rattle.eris_in_place.specs.MessageRanges.{SendsFit};
+ghost use Rattle.eris_msg.specs.declared.message.Message.{Message};
+ghost use Rattle.eris_msg.specs.Spellings.{IsSpelling};
 ghost use Rattle.eris_replica.specs.ReplicaValues.{InputFits};
 ghost use Rattle.eris_nodes.specs.ReplicaRows.{AreRows, first_rows, log_of, replicas_step, rows_of};
+ghost use Rattle.eris_rules.specs.declared.replica_input.ReplicaInput.TheVariants as inputs;
 ghost use Rattle.eris_rules.specs.Reports.{all_lines};
 ghost use Rattle.eris_rules.specs.WorldOrders.{is_held_by, is_held_in};
 ghost use Rattle.eris_rules.specs.Worlds.{WorldState, replica_at};
@@ -75,6 +78,34 @@ impl Replicas {
         self.spent = true;
         let row = &mut self.rows[at];
         let sends = row.step(replica, input)?;
+        self.spent = false;
+        Ok(sends)
+    }
+
+    /// A replica takes the message that the bytes spell, as by [`step`](Replicas::step). Bytes that spell none
+    /// change nothing and send nothing. After [`NoMemory`] they are spent.
+    pub fn receive(
+        &mut self,
+        shard: ShardId,
+        replica: ReplicaId,
+        bytes: &[u8],
+    ) -> Result<Row<Outgoing>, NoMemory>
+        requires { self.old.spent ≡ false }
+        ensures message { (message : Message) → IsSpelling message bytes.now → IfOk result (λ sends. record { rows = self.new.rows; sends = sends }
+            ≡ replicas_step self.old.config self.old.rows shard replica (inputs.Message message)) }
+        ensures noise { ((message : Message) → IsSpelling message bytes.now → ⊥) → IfOk result (λ sends.
+            (sends ≡ []) × (self.new.rows ≡ self.old.rows)) }
+        ensures fits { IfOk result (λ sends. SendsFit sends) }
+        ensures stays { OnOk result (self.new ≡ record self.old { rows = self.new.rows }) }
+        ensures err { OnErr result (self.new.spent ≡ true) }
+    {
+        let at = shard.0 as usize;
+        if at >= self.rows.len() {
+            return Ok(Row::new(self.alloc));
+        }
+        self.spent = true;
+        let row = &mut self.rows[at];
+        let sends = row.receive(replica, bytes)?;
         self.spent = false;
         Ok(sends)
     }

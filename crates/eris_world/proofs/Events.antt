@@ -1,7 +1,8 @@
 -- What is known of an event that isn't refused and whose fields are in the ranges of a script's lines. Used where events
 -- happen.
-use Rattle.std.proofs.Common.{◌≡◌, ◌<◌, ◌==◌, ◌||◌, ◌&&◌, ◌⊎◌, ℕ, zero, suc, Bool, true, false, cond, not, length, map, nat_lt, List, [], ◌∷◌, Option, Some, None, refl, ap, sym, subst, ◌∙◌, inl, inr}
-use Rattle.std.specs.Prelude.{slice_get, is_none}
+use Rattle.std.proofs.Common.{◌≡◌, ◌<◌, ◌-◌, ◌==◌, ◌||◌, ◌&&◌, ◌⊎◌, ℕ, zero, suc, Bool, true, false, cond, not, length, map, nat_lt, List, [], ◌∷◌, Option, Some, None, refl, ap, sym, subst, ◌∙◌, inl, inr}
+use Rattle.std.specs.Prelude.{Result, Ok, Err, is_ok, slice_get, is_none}
+use Rattle.std.specs.Option.{option_or}
 use Rattle.std.specs.List.{list_all}
 use Rattle.std.proofs.lemmas.Bool.{and_parts}
 use Rattle.std.proofs.lemmas.Option.{slice_get_within}
@@ -15,7 +16,14 @@ use Rattle.eris_txn.specs.declared.op.Op.{Op}
 use Rattle.eris_txn.specs.declared.txn.Txn.TheVariants as txns
 use Rattle.eris_txn.specs.Operations.{key_of}
 use Rattle.eris_txn.specs.PlanValues.{PlanValue}
+use Rattle.eris_msg.specs.declared.fault.DecodeFault.TheVariants as faults
+use Rattle.eris_msg.specs.declared.fault.Wrong.{Wrong}
+use Rattle.eris_msg.specs.declared.message.Message.{Message}
 use Rattle.eris_msg.specs.declared.outgoing.Outgoing.{Outgoing}
+use Rattle.eris_msg.specs.Codecs.{whole}
+use Rattle.eris_msg.specs.Messages.{message}
+use Rattle.eris_msg.specs.Spellings.{IsSpelling}
+use Rattle.eris_msg.proofs.Decodes.{is_only}
 use Rattle.eris_client.specs.ClientRanges.{TxnFits}
 use Rattle.eris_event_ranges.proofs.EventRanges.{ops_are_in_range, plan_is_in_range}
 use Rattle.eris_nodes.specs.declared.act.Act.{Act}
@@ -23,9 +31,9 @@ use Rattle.eris_nodes.specs.Allowed.{CanActAt}
 use Rattle.eris_rules.specs.declared.refusal.Refusal.{Refusal}
 use Rattle.eris_rules.specs.declared.refusal.Refusal.TheVariants as refusals
 use Rattle.eris_rules.specs.ClientStates.{ClientState}
-use Rattle.eris_rules.specs.Happenings.{happens, submitted_at}
+use Rattle.eris_rules.specs.Happenings.{submitted_at}
 use Rattle.eris_rules.specs.Known.{knows_client, knows_keys}
-use Rattle.eris_rules.specs.Refusals.{abort_cause, cause, deliver_cause, general_cause}
+use Rattle.eris_rules.specs.Refusals.{abort_cause, cause, deliver_cause, general_cause, is_message, node_cause, noise_cause}
 use Rattle.eris_rules.specs.Worlds.{WorldState, client_at}
 use Rattle.eris_script.specs.declared.event.Event.{Event}
 use Rattle.eris_script.specs.LineForms.{fits_event}
@@ -90,6 +98,19 @@ unfolding knows_keys
 ops_known config [] = refl
 ops_known config (op ∷ ops) = ap (λ z. nat_lt (key_of op).shard.0 config.shards && z) (ops_known config ops)
 
-pub noise_does_none : (config : ConfigValue) (world : WorldState) (node : Node) (bytes : List ℕ) → happens config world (Event.Noise node bytes) ≡ world
-unfolding happens
-noise_does_none config world node bytes = refl
+-- ---- noise
+second_none : (one other : Option Refusal) → option_or one other ≡ None → other ≡ None
+second_none None other h = h
+second_none (Some told) other h = absurd cc
+
+not_spelled : (one : Message) (bytes : List ℕ) (read : Result Message Wrong) → whole message bytes ≡ read → cond (is_ok read) (Some refusals.IsMessage) None ≡ None → IsSpelling one bytes → ⊥
+not_spelled one bytes (Ok other) e h spelled = absurd cc
+not_spelled one bytes (Err wrong) e h spelled =
+    let told = is_only one bytes (Err (faults.Bad (length bytes - wrong.left) wrong.reason)) spelled (wrong.left, e, refl) in
+    let apart = told.1 in
+    cc
+
+pub noise_is_none : (config : ConfigValue) (world : WorldState) (node : Node) (bytes : List ℕ) → cause config world (Event.Noise node bytes) ≡ None → (one : Message) → IsSpelling one bytes → ⊥
+unfolding cause noise_cause is_message
+noise_is_none config world node bytes h one spelled =
+    not_spelled one bytes (whole message bytes) refl (second_none (node_cause config world node) (noise_cause bytes) h) spelled

@@ -1,6 +1,6 @@
 -- What a step of a node makes of a world: the rules' own world after it. Used by each call that hands something to a
 -- node.
-use Rattle.std.proofs.Common.{◌≡◌, ◌++◌, ◌==◌, not, ℕ, true, false, cond, List, [], length, Option, Some, None, Result, Ok, Err, refl, ap, sym, subst, ◌∙◌}
+use Rattle.std.proofs.Common.{◌≡◌, ◌<◌, ◌++◌, ◌==◌, not, ℕ, zero, suc, true, false, cond, List, [], ◌∷◌, length, arith, Option, Some, None, Result, Ok, Err, refl, ap, sym, subst, ◌∙◌}
 use Rattle.std.specs.Prelude.{OnOk, option_map, slice_get}
 use Rattle.std.specs.List.{filter, list_any, range_with_len}
 use Rattle.std.proofs.lemmas.List.{append-nil}
@@ -16,6 +16,8 @@ use Rattle.eris_txn.specs.declared.key.Key.{Key}
 use Rattle.eris_txn.specs.PlanValues.{PlanValue}
 use Rattle.eris_network.specs.declared.send_fault.SendFault.{SendFault}
 use Rattle.eris_network.specs.Limits.{IsMetBy}
+use Rattle.eris_network.specs.Networks.{IsSpelledBy}
+use Rattle.eris_msg.specs.Spellings.{IsSpelling}
 use Rattle.eris_msg.specs.declared.message.Message.{Message}
 use Rattle.eris_msg.specs.declared.outgoing.Outgoing.{Outgoing}
 use Rattle.eris_nodes.specs.ClientRows.{ClientsOut, clients_act, keys_in, one_acts, plan_keys}
@@ -117,6 +119,14 @@ stays_so before state e room =
 -- ---- what each call shows: `view` says that the kept parts are the world as the call began
 spent_too : (v old : WorldValue) → v ≡ old → old.spent ≡ false → v.spent ≡ false
 spent_too v old view unspent = ap (λ (z : WorldValue). z.spent) view ∙ unspent
+
+-- a node that hears noise stays as it was, and so does the world
+pub noise_ok : (v old : WorldValue) → v ≡ old → (made : WorldState) → old.spent ≡ false → made ≡ v.state → limit_met v.state.sent ≡ None
+    → Becomes old (record { config = v.config; state = made; spent = false }) old.state
+noise_ok v old view made unspent e room =
+    let new : WorldValue = record { config = v.config; state = made; spent = false } in
+    subst (λ (z : WorldValue). Becomes z new z.state) view
+    (becomes v made v.state (spent_too v old view unspent) e (ap (λ (z : WorldState). limit_met z.sent) e ∙ room))
 
 pub replica_ok : (v old : WorldValue) → v ≡ old → (shard : ShardId) (replica : ReplicaId) (input : ReplicaInput) (rows : List (List ReplicaState)) (sends told sent : List Outgoing) (waiting : List ℕ)
     → old.spent ≡ false → has_crashed old.state shard replica ≡ false
@@ -226,21 +236,36 @@ take_ok v old view number sent waiting e h room =
     subst (λ (z : WorldValue). Becomes z new (no_longer_waiting z.state number)) view
     (record { world = ap (λ (z : WorldState). record v { state = z }) made; room = room })
 
-arrives_is : (config : ConfigValue) (world : WorldState) (epoch : Option Epoch) (o : Option Outgoing) (to : Node) (message : Message) → Some to ≡ option_map (λ one. one.to) o → option_map (λ one. one.message) o ≡ Some message
-    → arrives config world epoch o ≡ comes_to config world epoch to message
-arrives_is config world epoch None to message e h = absurd cc
-arrives_is config world epoch (Some one) to message e h =
-    let node : one.to ≡ to = cc in
-    let said : one.message ≡ message = cc in
-    ap (λ (z : Node). comes_to config world epoch z one.message) node ∙ ap (λ (z : Message). comes_to config world epoch to z) said
+pub taken_sent : (old middle : WorldValue) (number : ℕ) → Becomes old middle (no_longer_waiting old.state number) → middle.state.sent ≡ old.state.sent
+unfolding no_longer_waiting
+taken_sent old middle number taken = ap (λ (z : WorldValue). z.state.sent) taken.world
 
-pub delivered : (old middle : WorldValue) (number : ℕ) (epoch : Option Epoch) (to : Node) (message : Message) → Becomes old middle (no_longer_waiting old.state number)
-    → Some to ≡ option_map (λ one. one.to) (slice_get old.state.sent number) → option_map (λ one. one.message) (slice_get old.state.sent number) ≡ Some message
-    → comes_to middle.config middle.state epoch to message ≡ delivers old.config old.state number epoch
-unfolding delivers
-delivered old middle number epoch to message taken e h =
-    ap (λ (z : WorldValue). comes_to z.config z.state epoch to message) taken.world
-    ∙ sym (arrives_is old.config (no_longer_waiting old.state number) epoch (slice_get old.state.sent number) to message e h)
+pub delivered : (old middle : WorldValue) (number : ℕ) (epoch : Option Epoch) → Becomes old middle (no_longer_waiting old.state number)
+    → arrives middle.config middle.state epoch (slice_get middle.state.sent number) ≡ delivers old.config old.state number epoch
+unfolding delivers no_longer_waiting
+delivered old middle number epoch taken = ap (λ (z : WorldValue). arrives z.config z.state epoch (slice_get z.state.sent number)) taken.world
+
+-- what holds of the world after a sent message has come to its node holds of the world after it has arrived
+pub arrives_at : (config : ConfigValue) (world : WorldState) (epoch : Option Epoch) (o : Option Outgoing) (to : Node) (P : WorldState → Type 0) → Some to ≡ option_map (λ one. one.to) o
+    → ((one : Outgoing) → o ≡ Some one → P (comes_to config world epoch to one.message)) → P (arrives config world epoch o)
+arrives_at config world epoch None to P e f = absurd cc
+arrives_at config world epoch (Some one) to P e f =
+    let node : to ≡ one.to = cc in
+    subst (λ (z : Node). P (comes_to config world epoch z one.message)) node (f one refl)
+
+-- the bytes that the network has of a sent message are its spelling
+pub spelled_at : (v old : WorldValue) → v ≡ old → (number : ℕ) (bytes : List ℕ) (one : Outgoing) → IsSpelledBy (slice_get v.state.sent number) (Some bytes) → slice_get old.state.sent number ≡ Some one
+    → IsSpelling one.message bytes
+spelled_at v old view number bytes one h is = subst (λ (o : Option Outgoing). IsSpelledBy o (Some bytes)) (ap (λ (z : WorldValue). slice_get z.state.sent number) view ∙ is) h
+
+sent_has_bytes : (sent : List Outgoing) (number : ℕ) → number < length sent → IsSpelledBy (slice_get sent number) None → ⊥
+sent_has_bytes [] number lt h = absurd (omega (arith, lt))
+sent_has_bytes (one ∷ sent) zero lt h = h
+sent_has_bytes (one ∷ sent) (suc number) lt h = sent_has_bytes sent number (omega (arith, lt)) h
+
+pub has_bytes : (v old : WorldValue) → v ≡ old → (number : ℕ) → number < length old.state.sent → IsSpelledBy (slice_get v.state.sent number) None → ⊥
+has_bytes v old view number lt h =
+    sent_has_bytes old.state.sent number lt (subst (λ (z : WorldValue). IsSpelledBy (slice_get z.state.sent number) None) view h)
 
 pub on_ok : {T E : Type 0} (r : Result T E) (P Q : Type 0) → (P → Q) → OnOk r P → OnOk r Q
 on_ok (Ok x) P Q f h = f h

@@ -1,4 +1,4 @@
-//! What each kind of node does, and what becomes of the world by it.
+//! What each kind of node does, other than on the bytes that come to it, and what becomes of the world by it.
 ghost use Rattle.std.specs.Prelude.{◌≡◌, false, true, IfErr, OnErr, OnOk};
 ghost use Rattle.std.specs.List.{list_any};
 ghost use Rattle.eris_coord.specs.Fitting.{InputFits as CoordInputFits};
@@ -99,7 +99,7 @@ impl World {
         Ok(())
     }
 
-    /// A client acts, of itself or by a message, and what happened at it stands in the history.
+    /// A client acts of itself, and what happened at it stands in the history.
     pub(crate) fn client_acts(&mut self, client: ClientId, act: Act) -> Result<(), SendFault>
         requires unspent { self.old.spent ≡ false }
         requires can { CanActAt self.old.config self.old.state.clients client act }
@@ -142,7 +142,10 @@ fn has_crashed(crashed: &[(ShardId, ReplicaId)], shard: ShardId, replica: Replic
 }
 
 /// What happened, if anything did, stands in the history.
-fn note(history: &mut Row<HistoryEvent>, event: Option<HistoryEvent>) -> Result<(), NoMemory>
+pub(crate) fn note(
+    history: &mut Row<HistoryEvent>,
+    event: Option<HistoryEvent>,
+) -> Result<(), NoMemory>
     ensures { OnOk result (history.new ≡ with_event history.old event) }
 {
     match event {

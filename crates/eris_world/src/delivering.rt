@@ -1,17 +1,15 @@
 //! What the network does, and what an event does.
-ghost use Rattle.std.specs.Prelude.{◌≡◌, ◌<◌, ◌++◌, ◌∷◌, ◌==◌, [], None, false, true, length, IfErr, OnErr, OnOk};
-ghost use Rattle.eris_msg.specs.Spellings.{message_fits};
+ghost use Rattle.std.specs.Prelude.{◌≡◌, ◌<◌, ◌++◌, ◌∷◌, ◌==◌, [], None, false, length, true, IfErr, OnErr, OnOk};
 ghost use Rattle.eris_network.specs.Limits.{IsMetBy};
-ghost use Rattle.eris_rules.specs.Happenings.{aborts_plan, comes_to, delivers, flows, happens, loses, plan_of_transaction, submitted_at};
-ghost use Rattle.eris_rules.specs.Refusals.{cause, limit_met};
+ghost use Rattle.eris_rules.specs.Happenings.{aborts_plan, delivers, flows, happens, loses, plan_of_transaction, submitted_at};
+ghost use Rattle.eris_rules.specs.Refusals.{cause};
 ghost use Rattle.eris_rules.specs.Worlds.{no_longer_waiting};
 ghost use Rattle.eris_sequencer.specs.Sequencers.{replace};
 ghost use Rattle.eris_world.specs.Becoming.{Becomes};
 ghost use Rattle.eris_world.specs.WorldValues.{CanGoOn, EventFits};
 
 use crate::world::World;
-use eris_base::{ClientId, Epoch, NoMemory, Node, ReplicaId, ShardId, TxnId};
-use eris_msg::Message;
+use eris_base::{ClientId, Epoch, NoMemory, ReplicaId, ShardId, TxnId};
 use eris_network::SendFault;
 use eris_nodes::Act;
 use eris_rules::{CoordInput, ReplicaInput};
@@ -19,27 +17,6 @@ use eris_script::Event;
 use eris_txn::Txn;
 
 impl World {
-    /// A message comes to its node; an Ask to the sequencer of the epoch that is named, or else to the newest.
-    fn come_to(&mut self, epoch: Option<Epoch>, to: Node, message: Message) -> Result<(), SendFault>
-        requires unspent { self.old.spent ≡ false }
-        requires fits { message_fits message ≡ true }
-        ensures ok { OnOk result (Becomes self.old self.new (comes_to self.old.config self.old.state epoch to message)) }
-        ensures err { IfErr result (IsMetBy (comes_to self.old.config self.old.state epoch to message).sent) }
-        ensures spent { OnErr result (self.new.spent ≡ true) }
-    {
-        match to {
-            Node::Sequencer => {
-                let newest = self.sequencers.newest();
-                self.sequencer_takes(epoch.unwrap_or(newest), message)
-            }
-            Node::Coordinator => self.coordinator_takes(CoordInput::Message(message)),
-            Node::Replica(shard, replica) => {
-                self.replica_takes(shard, replica, ReplicaInput::Message(message))
-            }
-            Node::Client(client) => self.client_acts(client, Act::Hear(message)),
-        }
-    }
-
     /// The message of this number waits no more.
     fn take(&mut self, number: u32)
         requires unspent { self.old.spent ≡ false }
@@ -61,16 +38,8 @@ impl World {
             Some(to) => to,
             None => unreachable!(),
         };
-        match self.network.message(number) {
-            Ok(message) => {
-                self.take(number);
-                self.come_to(epoch, to, message)
-            }
-            Err(NoMemory) => {
-                self.spent = true;
-                Err(SendFault::NoMemory)
-            }
-        }
+        self.take(number);
+        self.come_to(number, epoch, to)
     }
 
     /// The lowest waiting message is delivered, if one waits.
@@ -149,14 +118,6 @@ impl World {
         }
     }
 
-    /// Nobody takes bytes that are no message, and nothing is sent.
-    fn stand(&self)
-        requires { self.now.spent ≡ false }
-        ensures { limit_met self.now.state.sent ≡ None }
-    {
-        let _ = &self.network;
-    }
-
     /// What the event does.
     #[tactic(auto, unfolding(eris_rules::specs::Happenings::happens))]
     pub(crate) fn happen(&mut self, event: Event) -> Result<(), SendFault>
@@ -195,10 +156,7 @@ impl World {
             Event::Crash { shard, replica } => self.crash(shard, replica),
             Event::Nudge => self.coordinator_takes(CoordInput::Nudge),
             Event::Replace => self.replace(),
-            Event::Noise { .. } => {
-                self.stand();
-                Ok(())
-            }
+            Event::Noise { node, bytes } => self.hear_noise(node, bytes.as_slice()),
         }
     }
 }

@@ -4,6 +4,7 @@
 
 mod acting;
 mod delivering;
+mod hearing;
 mod ordering;
 mod refusing;
 mod reporting;

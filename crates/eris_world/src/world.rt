@@ -127,7 +127,9 @@ impl World {
         self.network.lowest().is_some()
     }
 
-    /// One event, whose fields are in the ranges of a script's lines.
+    /// One event, whose fields are in the ranges of a script's lines. A node gets bytes, which it reads itself:
+    /// those of a message that comes to it, and those of noise, in which it finds none. The sequencers alone are
+    /// handed a message that is read for them.
     ///
     /// # Errors
     ///

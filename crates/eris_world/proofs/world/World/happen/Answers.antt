@@ -1,9 +1,8 @@
 use Rattle.std.proofs.Common.{◌≡◌, refl, ap, sym, subst, ◌∙◌}
-use Rattle.eris_rules.specs.Happenings.{happens}
+use Rattle.eris_msg.specs.Spellings.{IsSpelling}
 use Rattle.eris_rules.specs.Refusals.{cause}
 use Rattle.eris_world.specs.WorldValues.{EventFits}
-use Rattle.eris_world.proofs.Events.{aborts_another, general_can, noise_does_none, submit_can, was_sent}
-use Rattle.eris_world.proofs.Steps.{stays_so}
+use Rattle.eris_world.proofs.Events.{aborts_another, general_can, noise_is_none, submit_can, was_sent}
 use Rattle.eris_world.proofs.world.World.happen.Goals as goal
 
 pub client_acts-requires-clause-can : goal.client_acts-requires-clause-can
@@ -24,8 +23,7 @@ deliver-requires-clause-sent c =
     was_sent c.args.self.now.config c.args.self.now.state c.in-Deliver.packet c.in-Deliver.epoch
     (sym (ap (cause c.args.self.now.config c.args.self.now.state) c.in-Deliver.is) ∙ c.requires.known)
 
-pub returns-clause-ok : goal.returns-clause-ok
-returns-clause-ok c =
-    stays_so c.args.self.now (happens c.args.self.now.config c.args.self.now.state c.args.event)
-    (sym (ap (happens c.args.self.now.config c.args.self.now.state) c.in-Noise.is ∙ noise_does_none c.args.self.now.config c.args.self.now.state c.in-Noise.node c.in-Noise.bytes))
-    c.stand.ensures
+pub hear_noise-requires-clause-noise : goal.hear_noise-requires-clause-noise
+hear_noise-requires-clause-noise c = λ message spelled.
+    noise_is_none c.args.self.now.config c.args.self.now.state c.in-Noise.node c.in-Noise.bytes
+    (sym (ap (cause c.args.self.now.config c.args.self.now.state) c.in-Noise.is) ∙ c.requires.known) message (subst (IsSpelling message) c.as_slice.ensures spelled)

@@ -1,7 +1,7 @@
-use Rattle.std.proofs.Common.{◌≡◌, false, ap, subst, ◌∙◌}
+use Rattle.std.proofs.Common.{◌≡◌, false, ap, ◌∙◌}
 use Rattle.std.proofs.lemmas.Result.{IfOk-weaker}
 use Rattle.std.specs.List.{filter}
-use Rattle.eris_rules.specs.WorldOrders.{order, stamping_list, survives}
+use Rattle.eris_rules.specs.WorldOrders.{stamping_list, survives}
 use Rattle.eris_world.specs.WorldValues.{WorldValue}
 use Rattle.eris_world.proofs.OrderLaws.{is_order}
 use Rattle.eris_world.proofs.world.World.order.Goals as goal

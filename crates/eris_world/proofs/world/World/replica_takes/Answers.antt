@@ -1,4 +1,4 @@
-use Rattle.std.proofs.Common.{◌≡◌, false, None, ap, sym, subst, ◌∙◌}
+use Rattle.std.proofs.Common.{◌≡◌, false, ap, sym, ◌∙◌}
 use Rattle.eris_network.specs.Networks.{NetworkValue}
 use Rattle.eris_world.specs.contracts.world.World.{the_view}
 use Rattle.eris_world.specs.WorldValues.{WorldValue}

@@ -1,6 +1,4 @@
-use Rattle.std.proofs.Common.{◌≡◌, false, None, ap, sym, subst, ◌∙◌}
-use Rattle.eris_network.specs.Networks.{NetworkValue}
-use Rattle.eris_world.specs.contracts.world.World.{the_view}
+use Rattle.std.proofs.Common.{◌≡◌, false, None, ap, subst, ◌∙◌}
 use Rattle.eris_world.specs.WorldValues.{WorldValue}
 use Rattle.eris_rules.specs.Refusals.{limit_met}
 use Rattle.eris_world.proofs.world.World.stand.Goals as goal

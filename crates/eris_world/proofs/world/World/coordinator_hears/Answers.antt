@@ -1,0 +1,28 @@
+use Rattle.std.proofs.Common.{◌≡◌, false, ap, ◌∙◌}
+use Rattle.eris_network.specs.Networks.{NetworkValue}
+use Rattle.eris_world.specs.contracts.world.World.{the_view}
+use Rattle.eris_world.specs.WorldValues.{WorldValue}
+use Rattle.eris_rules.specs.declared.coord_input.CoordInput.TheVariants as orders
+use Rattle.eris_rules.specs.Coordinators.{coord_step}
+use Rattle.eris_world.proofs.Steps.{coordinator_err, coordinator_ok, has_bytes, spelled_at}
+use Rattle.eris_world.proofs.world.World.coordinator_hears.Goals as goal
+
+pub unreachable-requires : goal.unreachable-requires
+unreachable-requires c = has_bytes (the_view c.self.inside) c.args.self.now c.self.view_is c.args.number c.requires.sent c.in-None.ensures
+
+pub returns-in-Err-send-clause-err : goal.returns-in-Err-send-clause-err
+returns-in-Err-send-clause-err c =
+    let unspent : c.self.inside.spent ≡ false = ap (λ (v : WorldValue). v.spent) c.self.view_is ∙ c.requires.unspent in
+    let whole = c.self.invariant unspent in
+    λ one is. coordinator_err (the_view c.self.inside) c.args.self.now c.self.view_is (orders.Message one.message) c.receive.new.self.state c.in-Ok.sends c.as_slice.result.now c.in-Err-send.fault
+    (c.in-Ok.ensures.message one.message (spelled_at (the_view c.self.inside) c.args.self.now c.self.view_is c.args.number c.in-Some.bytes.now one c.in-Some.ensures is)
+    ∙ ap (λ z. coord_step z c.self.inside.coordinator.state (orders.Message one.message)) whole.of_coordinator.of_config) c.as_slice.ensures c.in-Err-send.ensures.err
+
+pub returns-clause-ok : goal.returns-clause-ok
+returns-clause-ok c =
+    let unspent : c.self.inside.spent ≡ false = ap (λ (v : WorldValue). v.spent) c.self.view_is ∙ c.requires.unspent in
+    let whole = c.self.invariant unspent in
+    λ one is. coordinator_ok (the_view c.self.inside) c.args.self.now c.self.view_is (orders.Message one.message) c.receive.new.self.state c.in-Ok.sends c.as_slice.result.now c.send.new.self.sent c.send.new.self.waiting c.requires.unspent
+    (c.in-Ok.ensures.message one.message (spelled_at (the_view c.self.inside) c.args.self.now c.self.view_is c.args.number c.in-Some.bytes.now one c.in-Some.ensures is)
+    ∙ ap (λ z. coord_step z c.self.inside.coordinator.state (orders.Message one.message)) whole.of_coordinator.of_config) c.as_slice.ensures
+    (ap (λ (n : NetworkValue). n.sent) c.in-Ok-send.ensures.ok) (ap (λ (n : NetworkValue). n.waiting) c.in-Ok-send.ensures.ok) c.in-Ok-send.ensures.room
