@@ -1,7 +1,7 @@
 -- The words of a drill, read and told apart. Used where the words of the command line are read.
-use Rattle.std.proofs.Common.{◌≡◌, inl, inr, ◌≤◌, ◌<◌, ℕ, Bool, IsTrue, bytes_eq, IfSome, Option, Some, None, List, [], ◌∷◌, codes, length, get_or, map, ap, sym, ◌∙◌, arith, lit<, subst}
+use Rattle.std.proofs.Common.{◌≡◌, inl, inr, ◌≤◌, ℕ, Bool, IsTrue, bytes_eq, IfSome, Option, Some, None, List, [], ◌∷◌, codes, length, get_or, map, ap, sym, ◌∙◌, arith, lit<, subst}
 use Rattle.std.proofs.lemmas.Slice.Eq.{bytes_eq-Decides}
-use Rattle.eris_script.specs.Decimal.{decimal, read_decimal}
+use Rattle.eris_script.specs.Decimal.{read_decimal}
 use Rattle.eris_script.proofs.DecimalLaws.{read_decimal-decimal, read_decimal_only}
 use Rattle.eris_script.specs.declared.reason.Reason.{Reason}
 use Rattle.eris_run.specs.declared.status.Status.{Status}
@@ -11,6 +11,11 @@ use Rattle.eris_cmd.specs.Commands.{IsDrill, IsKnown, IsNumberWord, IsRun}
 
 pub reads : (word : List ℕ) (number : ℕ) → read_decimal 500 word ≡ Some number → 1 ≤ number → IsNumberWord word number
 reads word number read some = let only = read_decimal_only 500 word number (lit< tt) read in record { is = only.0; some = some; few = only.1 }
+
+-- the number that a word writes, where it is one of a drill
+pub number_reads : (word : List ℕ) (number : ℕ) (found : Option ℕ) → read_decimal 500 word ≡ Some number → IfSome found (λ drill. (drill ≡ number) × (1 ≤ number) × (number ≤ 500)) → IfSome found (IsNumberWord word)
+number_reads word number None read some = tt
+number_reads word number (Some drill) read some = subst (λ (n : ℕ). IsNumberWord word n) (sym some.0) (reads word number read some.1)
 
 pub read_back : (word : List ℕ) (number : ℕ) → IsNumberWord word number → read_decimal 500 word ≡ Some number
 read_back word number is = ap (read_decimal 500) is.is ∙ read_decimal-decimal 500 number (lit< tt) is.few

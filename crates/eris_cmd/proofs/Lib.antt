@@ -1,3 +1,6 @@
+pub mod AnswersTold
+pub mod CommandAnswers
 pub mod Drills
 pub mod Headlines
+pub mod InputsDue
 pub mod Words

@@ -1,9 +1,6 @@
--- THE HEADLINE: what the top call promises of a script that it has run. `left` and `left'` are the bytes that the source has
--- still to give, as the call begins and as it returns, and `taken` and `taken'` those that the sink has taken, where they are known.
-use Rattle.std.specs.Prelude.{◌≡◌, ℕ, Option, Some, Ok, List}
-use Rattle.std.specs.Io.KnownBytes.{Appends}
+-- THE HEADLINE: what is promised of a script that was run, of its bytes and of the text that is due for them.
+use Rattle.std.specs.Prelude.{◌≡◌, ℕ, ◌≤◌, Some, Ok, List, length}
 use Rattle.std.specs.List.{flat_map}
-use Rattle.eris_base.specs.Transfers.{ReadsToEnd}
 use Rattle.eris_script.specs.ReportText.{report_text}
 use Rattle.eris_script.specs.Scripts.{Script, events_of, script}
 use Rattle.eris_rules.specs.Good.{Good}
@@ -19,13 +16,11 @@ pub record AnswersFront (whole : Script) (world : WorldState) (bytes : List ℕ)
   pub ran : run whole.config (flat_map events_of front.said) ≡ Some middle
   pub answered : AreAnswered middle.history world.history
 
--- The source was read to its end, and its bytes are a script. This is the world after its events, and it is good: what happened
--- at the clients is serial in its order, and what each replica has settled is how that order begins on its shard. An undisturbed
--- script has each of its transactions answered there, and so have the first lines of any script, where they are undisturbed.
--- What was written is the report of that very world.
-pub record ReportsGoodRun (left left' taken taken' : Option (List ℕ)) : Type 0 where
-  pub bytes : List ℕ
-  pub read : ReadsToEnd left left' input_limit bytes
+-- The bytes are a script. This is the world after its events, and it is good: what happened at the clients is serial in its order,
+-- and what each replica has settled is how that order begins on its shard. An undisturbed script has each of its transactions
+-- answered there, and so have the first lines of any script, where they are undisturbed. The text is the report of that very world.
+pub record ReportsGoodRun (bytes text : List ℕ) : Type 0 where
+  pub within : length bytes ≤ input_limit
   pub whole : Script
   pub is_script : script bytes ≡ Ok whole
   pub world : WorldState
@@ -33,4 +28,4 @@ pub record ReportsGoodRun (left left' taken taken' : Option (List ℕ)) : Type 0
   pub good : Good world
   pub answers : IsUndisturbedScript bytes → AreAnswered world.history world.history
   pub answers_front : (front : BeginsUndisturbed bytes) → AnswersFront whole world bytes front
-  pub written : Appends taken taken' (report_text (report_of whole.config world))
+  pub is : text ≡ report_text (report_of whole.config world)

@@ -1,23 +1,28 @@
 ghost use Rattle.std.specs.Prelude.{◌≡◌, ◌≢◌, ◌⊎◌, ◌↔◌, ◌≤◌, ℕ, map, string_bytes, IfSome};
 ghost use Rattle.eris_base.specs.Faults.{Rose};
-ghost use Rattle.eris_cmd.specs.Headline.{ReportsGoodRun};
 ghost use Rattle.eris_cmd.specs.Commands.{IsDrill, IsKnown, IsRun};
+ghost use Rattle.eris_cmd.specs.Headline.{ReportsGoodRun};
+ghost use Rattle.eris_cmd.specs.Streams.{Answers, RefusesLargeInput, StopsTelling, StopsWriting, Tells};
 ghost use Rattle.eris_drill.specs.DrillText.{drill_text};
-ghost use Rattle.eris_drill_run.specs.Days.{IsAcceptedDrill, MeetsLimit, StopsTelling, SummarizesDay};
-ghost use Rattle.eris_run.specs.Calls.{RefusesLine, RefusesLarge, StopsWriting, IfBadScript, IfTooLarge, IsAccepted, status_due, status_for};
+ghost use Rattle.eris_drill_run.specs.Days.{IsAcceptedDrill, MeetsLimit, SummarizesDay};
+ghost use Rattle.eris_run.specs.Calls.{IfBadScript, IfTooLarge, IsAccepted, RefusesLine, status_due, status_for};
 ghost use Rattle.eris_run.specs.ScriptRuns.{outcome};
 
-use crate::command::{drill_of, is_run};
+use crate::command::Command;
+use crate::failure::Failure;
+use crate::reading::due_of;
+use crate::telling::tell;
 use eris_base::{Sink, Source};
-use eris_drill_run::run_drill;
-use eris_good_law::every_run_is_good;
-use eris_run::{Status, run_script};
-use eris_undisturbed_law::undisturbed_scripts_answer;
+use eris_run::Status;
 use std::alloc::Global;
 
 /// Does what the words ask, and answers how it ended. With `run` alone the source has a script, which is run,
 /// and the report of the world after it goes to the sink. With `drill N`, N from 1 to 500, the drill of that
 /// number is run, nothing is read, and the summary of its day goes to the sink.
+///
+/// It is a loop that reads, [`answer`](crate::answer) of the bytes that came, and a loop that writes the text
+/// that is due. The clauses below follow; they say something where the source tells what it has left and the
+/// sink what it has taken, and those of `answer` speak of the bytes and the text themselves.
 ///
 /// Where several answers could be given, `Usage` comes first, then `ReadFault` and `TooLarge` with line 0 as
 /// they come while the source is read, then the first line that is refused, then `WriteFault` in place of
@@ -35,24 +40,25 @@ pub fn eris_call<S: Source, K: Sink>(
 
     // RUN. What each answer says of the bytes read and written. The first is the headline.
     ensures done { IsRun (map string_bytes words.now) → result ≡ Status.Done
-        → ReportsGoodRun (S.left src.old) (S.left src.new) (K.taken snk.old) (K.taken snk.new) }
+        → Answers (S.left src.old) (S.left src.new) (K.taken snk.old) (K.taken snk.new) ReportsGoodRun }
     ensures too_large { IsRun (map string_bytes words.now) → IfTooLarge result
-        (RefusesLarge (S.left src.old) (S.left src.new) (K.taken snk.old) (K.taken snk.new)) }
+        (RefusesLargeInput (S.left src.old) (S.left src.new) (K.taken snk.old) (K.taken snk.new)) }
     ensures write_fault { IsRun (map string_bytes words.now) → result ≡ Status.WriteFault
         → Rose (K.faults snk.old) (K.faults snk.new)
         × StopsWriting (S.left src.old) (S.left src.new) (K.taken snk.old) (K.taken snk.new) }
 
     // These two come from `run` alone.
     ensures bad_script { IfBadScript result (λ line reason. IsRun (map string_bytes words.now)
-        × RefusesLine (S.left src.old) (S.left src.new) (K.taken snk.old) (K.taken snk.new) line reason) }
+        × Answers (S.left src.old) (S.left src.new) (K.taken snk.old) (K.taken snk.new)
+        (λ bytes text. RefusesLine bytes text line reason)) }
     ensures read_fault { result ≡ Status.ReadFault
         → IsRun (map string_bytes words.now) × Rose (S.faults src.old) (S.faults src.new) × (snk.new ≡ snk.old) }
 
     // DRILL. The same, of the day; nothing is read.
     ensures drill_done { (number : ℕ) → IsDrill (map string_bytes words.now) number → result ≡ Status.Done
-        → SummarizesDay number (K.taken snk.old) (K.taken snk.new) }
+        → Tells (K.taken snk.old) (K.taken snk.new) (SummarizesDay number) }
     ensures drill_too_large { (number : ℕ) → IsDrill (map string_bytes words.now) number
-        → IfTooLarge result (MeetsLimit number (K.taken snk.old) (K.taken snk.new)) }
+        → IfTooLarge result (λ line. Tells (K.taken snk.old) (K.taken snk.new) (λ text. MeetsLimit number text line)) }
     ensures drill_write_fault { (number : ℕ) → IsDrill (map string_bytes words.now) number → result ≡ Status.WriteFault
         → Rose (K.faults snk.old) (K.faults snk.new) × StopsTelling number (K.taken snk.old) (K.taken snk.new) }
     ensures drill_reads_nothing { (number : ℕ) → IsDrill (map string_bytes words.now) number → src.new ≡ src.old }
@@ -82,13 +88,16 @@ pub fn eris_call<S: Source, K: Sink>(
     ensures source_count { S.faults src.old ≤ S.faults src.new }
     ensures sink_count { K.faults snk.old ≤ K.faults snk.new }
 {
-    every_run_is_good();
-    undisturbed_scripts_answer();
-    if is_run(words) {
-        return run_script(alloc, src, snk);
-    }
-    match drill_of(words) {
-        Some(number) => run_drill(alloc, number, snk),
-        None => Status::Usage,
+    let Some(command) = Command::from_words(words) else {
+        return Status::Usage;
+    };
+    match due_of(alloc, command, src) {
+        Ok(due) => match tell(snk, due.text.as_slice()) {
+            Ok(()) => due.status,
+            Err(Failure::Fault) => Status::WriteFault,
+            Err(Failure::NoMemory) => Status::NoMemory,
+        },
+        Err(Failure::Fault) => Status::ReadFault,
+        Err(Failure::NoMemory) => Status::NoMemory,
     }
 }

@@ -1,8 +1,15 @@
-//! The top call: from the words of a command line, the bytes of a source and a sink to a status.
+//! The top call, from the words of a command line and the bytes of a source and a sink to a status; and its core, from a
+//! command and bytes in memory to the status and the text that are due.
 #![tactic(auto)]
 
+mod answering;
 mod call;
 mod command;
+mod failure;
+mod reading;
+mod telling;
 
+pub use answering::answer;
 pub use call::eris_call;
-pub use eris_run::Status;
+pub use command::{Command, DrillNumber};
+pub use eris_run::{Due, Status};

@@ -4,26 +4,34 @@
 
 ghost use Rattle.std.specs.Prelude.{◌≤◌, IfSome};
 
-use eris_base::StdSink;
-use eris_drill_run::run_drill;
+use eris_drill_run::drill_due;
 use eris_run::Status;
 use eris_script::read_number;
+use std::alloc::Global;
 
 fn main(rt: HostRuntime) -> anyhow::Result<()> {
     for line in rt.lines(rt.alloc()) {
         let line = line?;
         match number_of(line.as_bytes()) {
             Some(number) => {
-                let mut sink = StdSink::new(rt.stdout());
-                let status = run_drill(rt.alloc(), number, &mut sink);
-                if status != Status::Done {
-                    println!(rt; "status {}", status.number())?;
-                }
+                let told = told_of(rt.alloc(), number)?;
+                print!(rt; "{told}")?;
             }
             None => println!(rt; "no number of a drill")?,
         }
     }
     Ok(())
+}
+
+fn told_of(alloc: Global, number: u32) -> anyhow::Result<String>
+    requires some { 1 ≤ number }
+    requires few { number ≤ 500 }
+{
+    let due = drill_due(alloc, number)?;
+    if due.status != Status::Done {
+        return Ok(format!(in alloc; "status {}\n", due.status.number())?);
+    }
+    Ok(String::from_utf8_lossy(alloc, due.text.as_slice())?)
 }
 
 fn number_of(word: &[u8]) -> Option<u32>

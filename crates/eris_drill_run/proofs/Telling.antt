@@ -1,6 +1,5 @@
 -- What is due for a drill, and what its status then says. Used where the run of its script has ended.
-use Rattle.std.proofs.Common.{◌≡◌, ◌≢◌, ◌⊎◌, inl, inr, ◌≤◌, ◌+◌, ℕ, Option, Some, Result, Ok, Err, IfOk, List, count_by, ap, sym, ◌∙◌, subst, refl}
-use Rattle.std.specs.Io.KnownBytes.{Appends}
+use Rattle.std.proofs.Common.{◌≡◌, inl, ◌≤◌, ◌+◌, ℕ, Some, Result, Ok, Err, IfOk, List, count_by, ap, sym, ◌∙◌, subst, refl}
 use Rattle.eris_rules.specs.Good.{Good}
 use Rattle.eris_rules.specs.Reports.{report_of}
 use Rattle.eris_rules.specs.Runs.{run}
@@ -16,12 +15,12 @@ use Rattle.eris_run.specs.declared.refused.Why.{Why}
 use Rattle.eris_run.specs.declared.refused.Why.TheVariants as whys
 use Rattle.eris_run.specs.declared.status.Status.{Status}
 use Rattle.eris_run.specs.declared.status.Status.TheVariants.{Done}
-use Rattle.eris_run.specs.Calls.{status_for, status_of}
+use Rattle.eris_run.specs.Calls.{HasText, IfBadScript, IfTooLarge, status_for, status_of}
 use Rattle.eris_run.specs.Dues.{IsRefusal}
 use Rattle.eris_run.specs.ScriptRuns.{Ran, outcome}
-use Rattle.eris_run.specs.Texts.{limit_text, refusal_text}
+use Rattle.eris_run.specs.Texts.{refusal_text}
 use Rattle.eris_run.proofs.FirstRefusals.{first_refused}
-use Rattle.eris_drill_run.specs.Days.{EndsDay, IsAcceptedDrill, IsDueDay, IsSummaryOf, IsTextFor, MeetsLimit, SummarizesDay}
+use Rattle.eris_drill_run.specs.Days.{IsDueDay, IsSummaryOf, IsTextFor, MeetsLimit, SummarizesDay}
 
 -- ---- the laws, of every drill: how it ends, that it is refused for a limit alone, how much it submits, that it is good, and that
 -- it keeps its money
@@ -43,11 +42,17 @@ DrillsAreGood = (number : ℕ) → number ≤ 500 → (world : WorldState) → r
 abbrev pub DrillsKeepMoney : Type 0
 DrillsKeepMoney = (number : ℕ) → number ≤ 500 → (world : WorldState) → run bank (drill_events number) ≡ Some world → (total : ℕ) → IsTotal (values_left (report_of bank world)) total → total ≡ 16000
 
+-- all that a status and a text say of the day
+record Says (number : ℕ) (text : List ℕ) (status : Status) : Type 0 where
+  done : status ≡ Done → SummarizesDay number text
+  too_large : IfTooLarge status (MeetsLimit number text)
+  no_bad_script : IfBadScript status (λ line reason. ⊥)
+  has_text : HasText status
+
 module _ {number : ℕ} (few : number ≤ 500) where
-  day_told : {taken taken' : Option (List ℕ)} (ran : Ran) (text : List ℕ) → DrillsEnd → DrillsSubmit → DrillsAreGood → DrillsKeepMoney → outcome (drill_text number) ≡ Ok ran → IsSummaryOf number ran.world text → Appends taken taken' text
-      → EndsDay number taken taken' Done
+  day_told : (ran : Ran) (text : List ℕ) → DrillsEnd → DrillsSubmit → DrillsAreGood → DrillsKeepMoney → outcome (drill_text number) ≡ Ok ran → IsSummaryOf number ran.world text → Says number text Done
   unfolding report_of
-  day_told {taken} {taken'} ran text ends submit good keep is summary written =
+  day_told ran text ends submit good keep is summary =
       let happened = (ends number few ran is).1 in
       record {
         done = λ _. record {
@@ -58,57 +63,56 @@ module _ {number : ℕ} (few : number ≤ 500) where
           total = summary.total;
           sum = summary.sum;
           money = keep number few ran.world happened summary.total summary.sum;
-          written = subst (λ (some : List ℕ). Appends taken taken' some) summary.is written;
+          is = summary.is;
         };
         too_large = tt;
         no_bad_script = tt;
-        no_read_fault = λ same. cc;
-        no_write_fault = λ same. cc;
-        no_memory = λ same. cc;
-        no_usage = λ same. cc;
-        no_check = λ same. cc;
+        has_text = tt;
       }
 
-  limit_told : {taken taken' : Option (List ℕ)} (line : ℕ) (why : Why) (limit : Limit) → why ≡ whys.Limit limit → outcome (drill_text number) ≡ Err (record { line = line; why = why })
-      → Appends taken taken' (refusal_text line why) → EndsDay number taken taken' (status_of line why)
-  limit_told line (whys.Reason reason) limit same is written = absurd cc
-  limit_told line (whys.Limit limit) other same is written =
+  limit_told : (line : ℕ) (why : Why) (limit : Limit) → why ≡ whys.Limit limit → outcome (drill_text number) ≡ Err (record { line = line; why = why }) → Says number (refusal_text line why) (status_of line why)
+  limit_told line (whys.Reason reason) limit same is = absurd cc
+  limit_told line (whys.Limit limit) other same is =
       record {
         done = λ done. absurd cc;
         too_large = record {
           limit = limit;
           first = first_refused (drill_text number) (record { line = line; why = whys.Limit limit }) is;
           refused = is;
-          written = written;
+          is = refl;
         };
         no_bad_script = tt;
-        no_read_fault = λ equal. cc;
-        no_write_fault = λ equal. cc;
-        no_memory = λ equal. cc;
-        no_usage = λ equal. cc;
-        no_check = λ equal. cc;
+        has_text = tt;
       }
 
   -- ---- what is due for what comes of the drill's bytes
   pub day_due : DrillsEnd → DrillsSubmit → DrillsAreGood → DrillsKeepMoney → (ran : Ran) (due : Due) → outcome (drill_text number) ≡ Ok ran → due.status ≡ Done → IsSummaryOf number ran.world due.text
       → IsDueDay number due
   day_due ends submit good keep ran due is done summary =
+      let all = subst (λ (status : Status). Says number due.text status) (sym done) (day_told ran due.text ends submit good keep is summary) in
       record {
         status = done ∙ sym (ap status_for is);
         text = subst (λ (found : Result Ran Refused). IsTextFor number found due.text) (sym is) summary;
-        ends = λ taken taken' written. subst (λ (status : Status). EndsDay number taken taken' status) (sym done) (day_told ran due.text ends submit good keep is summary written);
+        done = all.done;
+        too_large = all.too_large;
+        no_bad_script = all.no_bad_script;
         accepted = λ world ran. inl done;
+        has_text = all.has_text;
       }
 
   pub line_due : DrillsMeetLimits → DrillsAccept → (refused : Refused) (due : Due) → outcome (drill_text number) ≡ Err refused → IsRefusal refused due → IsDueDay number due
   line_due limits accept refused due is refusal =
       let met = limits number few refused is in
+      let all = subst (λ (status : Status). Says number due.text status) (sym refusal.status)
+      (subst (λ (text : List ℕ). Says number text (status_of refused.line refused.why)) (sym refusal.text) (limit_told refused.line refused.why met.0 met.1 is)) in
       record {
         status = refusal.status ∙ sym (ap status_for is);
         text = subst (λ (found : Result Ran Refused). IsTextFor number found due.text) (sym is) refusal.text;
-        ends = λ taken taken' written. subst (λ (status : Status). EndsDay number taken taken' status) (sym refusal.status)
-            (limit_told refused.line refused.why met.0 met.1 is (subst (λ (text : List ℕ). Appends taken taken' text) refusal.text written));
+        done = all.done;
+        too_large = all.too_large;
+        no_bad_script = all.no_bad_script;
         accepted = λ world ran. (let other = accept number few world ran in absurd cc);
+        has_text = all.has_text;
       }
 
   -- ---- and for what the run of the script answers

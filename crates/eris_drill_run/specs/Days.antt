@@ -1,8 +1,5 @@
--- What the run of a drill answers and writes. In the records below `taken` and `taken'` are the bytes that the sink has taken, as
--- the call begins and as it returns, where they are known.
-use Rattle.std.specs.Prelude.{◌≡◌, ◌≢◌, ◌⊎◌, ℕ, ◌+◌, Option, Some, Result, Ok, Err, List, count_by, length}
-use Rattle.std.specs.Io.KnownBytes.{Appends}
-use Rattle.eris_base.specs.Transfers.{TakesFront}
+-- What the run of a drill is due: a status and a text, and what each status says of the day and of this very text.
+use Rattle.std.specs.Prelude.{◌≡◌, ◌⊎◌, ℕ, ◌+◌, Some, Result, Ok, Err, List, count_by, length}
 use Rattle.eris_rules.specs.Good.{Good}
 use Rattle.eris_rules.specs.Reports.{report_of}
 use Rattle.eris_rules.specs.Runs.{run}
@@ -16,8 +13,8 @@ use Rattle.eris_run.specs.declared.refused.Limit.{Limit}
 use Rattle.eris_run.specs.declared.refused.Refused.{Refused}
 use Rattle.eris_run.specs.declared.refused.Why.TheVariants as why
 use Rattle.eris_run.specs.declared.status.Status.{Status}
-use Rattle.eris_run.specs.declared.status.Status.TheVariants.{Done, CheckedNo, Usage, ReadFault, WriteFault, NoMemory}
-use Rattle.eris_run.specs.Calls.{IfBadScript, IfTooLarge, status_for}
+use Rattle.eris_run.specs.declared.status.Status.TheVariants.{Done, NoMemory}
+use Rattle.eris_run.specs.Calls.{HasText, IfBadScript, IfTooLarge, status_for}
 use Rattle.eris_run.specs.FirstRefused.{IsFirstRefused}
 use Rattle.eris_run.specs.ScriptRuns.{Ran, outcome}
 use Rattle.eris_run.specs.Texts.{limit_text, refusal_text}
@@ -33,8 +30,8 @@ pub record IsSummaryOf (number : ℕ) (world : WorldState) (text : List ℕ) : T
   pub is : text ≡ summary_text number (line_count number) (report_of bank world) total
 
 -- DONE: this is the world after the events of the drill, and it is good. All that was asked was submitted, and the bank has the
--- money that it had in the morning. What was written is the summary of that very world.
-pub record SummarizesDay (number : ℕ) (taken taken' : Option (List ℕ)) : Type 0 where
+-- money that it had in the morning. The text is the summary of that very world.
+pub record SummarizesDay (number : ℕ) (text : List ℕ) : Type 0 where
   pub world : WorldState
   pub ran : run bank (drill_events number) ≡ Some world
   pub good : Good world
@@ -42,44 +39,31 @@ pub record SummarizesDay (number : ℕ) (taken taken' : Option (List ℕ)) : Typ
   pub total : ℕ
   pub sum : IsTotal (values_left (report_of bank world)) total
   pub money : total ≡ 16000
-  pub written : Appends taken taken' (summary_text number (line_count number) (report_of bank world) total)
+  pub is : text ≡ summary_text number (line_count number) (report_of bank world) total
 
 -- TOO LARGE: this is the first line of the drill's script that is refused, since the world would send more than may be sent
-pub record MeetsLimit (number : ℕ) (taken taken' : Option (List ℕ)) (line : ℕ) : Type 0 where
+pub record MeetsLimit (number : ℕ) (text : List ℕ) (line : ℕ) : Type 0 where
   pub limit : Limit
   pub first : IsFirstRefused (drill_text number) line (why.Limit limit)
   pub refused : outcome (drill_text number) ≡ Err (record { line = line; why = why.Limit limit })
-  pub written : Appends taken taken' (limit_text line limit)
+  pub is : text ≡ limit_text line limit
 
 -- the text that is due for what comes of a drill: the summary of its day, or the line that is refused
 abbrev pub IsTextFor : ℕ → Result Ran Refused → List ℕ → Type 0
 IsTextFor number (Ok ran) text = IsSummaryOf number ran.world text
 IsTextFor number (Err refused) text = text ≡ refusal_text refused.line refused.why
 
--- WRITE FAULT: of the text that is due only a front was taken
-pub record StopsTelling (number : ℕ) (taken taken' : Option (List ℕ)) : Type 0 where
-  pub text : List ℕ
-  pub due : IsTextFor number (outcome (drill_text number)) text
-  pub front : TakesFront taken taken' text
-
 -- ACCEPTED: a drill of which no event is refused is answered Done or by want of memory
 abbrev pub IsAcceptedDrill : ℕ → Status → Type 0
 IsAcceptedDrill number status = (world : WorldState) → run bank (drill_events number) ≡ Some world → (status ≡ Done) ⊎ (status ≡ NoMemory)
 
--- all that a status says where its whole text was written
-pub record EndsDay (number : ℕ) (taken taken' : Option (List ℕ)) (status : Status) : Type 0 where
-  pub done : status ≡ Done → SummarizesDay number taken taken'
-  pub too_large : IfTooLarge status (MeetsLimit number taken taken')
-  pub no_bad_script : IfBadScript status (λ line reason. ⊥)
-  pub no_read_fault : status ≢ ReadFault
-  pub no_write_fault : status ≢ WriteFault
-  pub no_memory : status ≢ NoMemory
-  pub no_usage : status ≢ Usage
-  pub no_check : status ≢ CheckedNo
-
--- what is due: the status and the text are those for what comes of the drill
+-- the status and the text are those for what comes of the drill, and what each status says of it holds; no line is refused for
+-- another cause than a limit
 pub record IsDueDay (number : ℕ) (due : Due) : Type 0 where
   pub status : due.status ≡ status_for (outcome (drill_text number))
   pub text : IsTextFor number (outcome (drill_text number)) due.text
-  pub ends : (taken taken' : Option (List ℕ)) → Appends taken taken' due.text → EndsDay number taken taken' due.status
+  pub done : due.status ≡ Done → SummarizesDay number due.text
+  pub too_large : IfTooLarge due.status (MeetsLimit number due.text)
+  pub no_bad_script : IfBadScript due.status (λ line reason. ⊥)
   pub accepted : IsAcceptedDrill number due.status
+  pub has_text : HasText due.status

@@ -75,8 +75,14 @@ fn run_day(alloc: Global, number: u32, script: &[u8]) -> Result<Due, NoMemory>
     }
 }
 
-/// What is due for the drill of this number: the summary of its day, or the line that meets a limit.
-pub(crate) fn day_of(alloc: Global, number: u32) -> Result<Due, NoMemory>
+/// What is due for the drill of this number, 1 to 500, whose script is made from the number and run as a script
+/// is: `Done` and the summary of its day; or `TooLarge` with the first line of the script whose event would send
+/// more than may be sent, and then that is told.
+///
+/// # Errors
+///
+/// [`NoMemory`] where an allocation was refused.
+pub fn drill_due(alloc: Global, number: u32) -> Result<Due, NoMemory>
     requires some { 1 ≤ number }
     requires few { number ≤ 500 }
     ensures { IfOk result (IsDueDay number) }

@@ -1,7 +1,6 @@
-//! The run of a drill, from its number to the bytes of a sink and a status.
+//! The run of a drill, from its number to the status and the text that it is due.
 #![tactic(auto)]
 
 mod day;
-mod run;
 
-pub use run::run_drill;
+pub use day::drill_due;

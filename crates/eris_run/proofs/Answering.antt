@@ -1,9 +1,7 @@
--- From what is due to what the run of a script promises. Used where the text that is due was written.
-use Rattle.std.proofs.Common.{◌≡◌, ◌≢◌, inl, inr, ℕ, ◌≤◌, ◌<◌, Bool, true, false, cond, nat_lt, Option, Result, Ok, Err, List, length, sym, subst, refl, arith}
-use Rattle.std.specs.Io.KnownBytes.{Appends}
+-- What is due for bytes says what the statuses promise. Used where the bytes of a script are answered.
+use Rattle.std.proofs.Common.{◌≡◌, inl, inr, ℕ, ◌≤◌, ◌<◌, Bool, true, false, cond, nat_lt, IfOk, Result, Ok, Err, List, length, ap, sym, ◌∙◌, subst, refl, arith}
 use Rattle.std.proofs.lemmas.Bool.Decides.{nat_tests}
 use Rattle.eris_base.specs.ConfigLimits.{ConfigValue}
-use Rattle.eris_base.specs.Transfers.{ReadsToEnd}
 use Rattle.eris_script.specs.ReportText.{report_text}
 use Rattle.eris_rules.specs.Reports.{report_of}
 use Rattle.eris_run.specs.declared.due.Due.{Due}
@@ -11,85 +9,115 @@ use Rattle.eris_run.specs.declared.refused.Refused.{Refused}
 use Rattle.eris_run.specs.declared.refused.Why.{Why}
 use Rattle.eris_run.specs.declared.refused.Why.TheVariants as why
 use Rattle.eris_run.specs.declared.status.Status.{Status}
-use Rattle.eris_run.specs.declared.status.Status.TheVariants.{Done, CheckedNo, Usage, TooLarge}
-use Rattle.eris_run.specs.Calls.{Comes, IfBadScript, IfTooLarge, RefusesLarge, RefusesLine, ReportsRun, answer_to, input_limit, status_for, status_of}
-use Rattle.eris_run.specs.Dues.{IsDue}
+use Rattle.eris_run.specs.declared.status.Status.TheVariants.{Done, TooLarge}
+use Rattle.eris_run.specs.Calls.{HasText, IfBadScript, IfTooLarge, IsAccepted, RefusesLarge, RefusesLine, ReportsRun, answer_to, input_limit, status_due, status_for, status_of, text_due}
+use Rattle.eris_run.specs.Dues.{IsDue, IsJudged}
 use Rattle.eris_run.specs.ScriptRuns.{Ran, outcome}
 use Rattle.eris_run.specs.Texts.{refusal_text, too_large_text}
+use Rattle.eris_run.proofs.Completeness.{done_due}
 use Rattle.eris_run.proofs.FirstRefusals.{first_refused}
 use Rattle.eris_run.proofs.ScriptLaws.{line_above, script_taken}
 
--- all that is promised of a status whose text was written
-pub record Keeps (left left' taken taken' : Option (List ℕ)) (status : Status) : Type 0 where
-  pub done : status ≡ Done → ReportsRun left left' taken taken'
-  pub bad_script : IfBadScript status (RefusesLine left left' taken taken')
-  pub too_large : IfTooLarge status (RefusesLarge left left' taken taken')
-  pub no_usage : status ≢ Usage
-  pub no_check : status ≢ CheckedNo
+-- all that a status and a text that are due say of the bytes
+record Says (bytes text : List ℕ) (status : Status) : Type 0 where
+  done : status ≡ Done → ReportsRun bytes text
+  bad_script : IfBadScript status (RefusesLine bytes text)
+  too_large : IfTooLarge status (RefusesLarge bytes text)
+  has_text : HasText status
 
--- all of the source was read
-to_end : {left left' : Option (List ℕ)} (bytes : List ℕ) → Comes left left' bytes → nat_lt input_limit (length bytes) ≡ false → ReadsToEnd left left' input_limit bytes
-to_end bytes comes small =
-    let within : length bytes ≤ input_limit = grind (arith, nat_tests) in
-    record { came = comes.came; ended = comes.ended within; within = within }
-
-module _ {left left' taken taken' : Option (List ℕ)} (bytes : List ℕ) (comes : Comes left left' bytes) where
-  input_refused : nat_lt input_limit (length bytes) ≡ true → Appends taken taken' too_large_text → Keeps left left' taken taken' (TooLarge 0)
-  input_refused large written =
-      let above : input_limit < length bytes = grind (arith, nat_tests) in
+module _ (bytes : List ℕ) where
+  input_refused : input_limit < length bytes → Says bytes too_large_text (TooLarge 0)
+  input_refused past =
       record {
-        done = λ is. absurd cc;
+        done = λ same. absurd cc;
         bad_script = tt;
-        too_large = inl (refl, record { past = record { bytes = bytes; came = comes.came; past = let few = comes.few in omega arith }; written = written });
-        no_usage = λ is. cc;
-        no_check = λ is. cc;
+        too_large = inl (refl, record { past = past; is = refl });
+        has_text = tt;
       }
 
-  run_reported : (ran : Ran) → ReadsToEnd left left' input_limit bytes → outcome bytes ≡ Ok ran → Appends taken taken' (report_text (report_of ran.config ran.world)) → Keeps left left' taken taken' Done
-  run_reported ran read is written =
+  run_reported : (ran : Ran) → length bytes ≤ input_limit → outcome bytes ≡ Ok ran → Says bytes (report_text (report_of ran.config ran.world)) Done
+  run_reported ran within is =
       let script = script_taken bytes ran is in
       record {
         done = λ _. record {
-          bytes = bytes;
-          read = read;
+          within = within;
           whole = script.whole;
           is_script = script.is_script;
           world = ran.world;
           ran = script.runs;
-          written = subst (λ (config : ConfigValue). Appends taken taken' (report_text (report_of config ran.world))) script.config written;
+          is = ap (λ (config : ConfigValue). report_text (report_of config ran.world)) script.config;
         };
         bad_script = tt;
         too_large = tt;
-        no_usage = λ is. cc;
-        no_check = λ is. cc;
+        has_text = tt;
       }
 
-  line_refused : (line : ℕ) (why : Why) → ReadsToEnd left left' input_limit bytes → outcome bytes ≡ Err (record { line = line; why = why }) → Appends taken taken' (refusal_text line why) → Keeps left left' taken taken' (status_of line why)
-  line_refused line (why.Reason reason) read is written =
+  line_refused : (line : ℕ) (why : Why) → length bytes ≤ input_limit → outcome bytes ≡ Err (record { line = line; why = why }) → Says bytes (refusal_text line why) (status_of line why)
+  line_refused line (why.Reason reason) within is =
       record {
         done = λ same. absurd cc;
-        bad_script = record { bytes = bytes; read = read; first = first_refused bytes (record { line = line; why = why.Reason reason }) is; refused = is; written = written };
+        bad_script = record { within = within; first = first_refused bytes (record { line = line; why = why.Reason reason }) is; refused = is; is = refl };
         too_large = tt;
-        no_usage = λ same. cc;
-        no_check = λ same. cc;
+        has_text = tt;
       }
-  line_refused line (why.Limit limit) read is written =
+  line_refused line (why.Limit limit) within is =
       record {
         done = λ same. absurd cc;
         bad_script = tt;
-        too_large = inr (record { above = line_above bytes (record { line = line; why = why.Limit limit }) is; limit = limit; bytes = bytes; read = read; first = first_refused bytes (record { line = line; why = why.Limit limit }) is; refused = is; written = written });
-        no_usage = λ same. cc;
-        no_check = λ same. cc;
+        too_large = inr (record {
+          above = line_above bytes (record { line = line; why = why.Limit limit }) is;
+          within = within;
+          limit = limit;
+          first = first_refused bytes (record { line = line; why = why.Limit limit }) is;
+          refused = is;
+          is = refl;
+        });
+        has_text = tt;
       }
 
-  keeps : (large : Bool) (found : Result Ran Refused) → nat_lt input_limit (length bytes) ≡ large → outcome bytes ≡ found
-      → Appends taken taken' (cond large too_large_text (answer_to found)) → Keeps left left' taken taken' (cond large (TooLarge 0) (status_for found))
-  keeps true found size is written = input_refused size written
-  keeps false (Ok ran) size is written = run_reported ran (to_end bytes comes size) is written
-  keeps false (Err refused) size is written = line_refused refused.line refused.why (to_end bytes comes size) is written
+  says : (large : Bool) (found : Result Ran Refused) → nat_lt input_limit (length bytes) ≡ large → outcome bytes ≡ found
+      → Says bytes (cond large too_large_text (answer_to found)) (cond large (TooLarge 0) (status_for found))
+  says true found size is = input_refused (grind (arith, nat_tests))
+  says false (Ok ran) size is = run_reported ran (grind (arith, nat_tests)) is
+  says false (Err refused) size is = line_refused refused.line refused.why (grind (arith, nat_tests)) is
 
--- WHAT IS DUE, WRITTEN
-pub answers : {left left' taken taken' : Option (List ℕ)} {due : Due} → IsDue left left' due → Appends taken taken' due.text → Keeps left left' taken taken' due.status
-answers {left} {left'} {taken} {taken'} {due} is_due written =
-    subst (λ (status : Status). Keeps left left' taken taken' status) (sym is_due.status)
-    (keeps is_due.bytes is_due.came (nat_lt input_limit (length is_due.bytes)) (outcome is_due.bytes) refl refl (subst (λ (text : List ℕ). Appends taken taken' text) is_due.text written))
+  accepted : (status : Status) → status ≡ status_due bytes → IsAccepted bytes status
+  accepted status due = λ whole world within is ran. inl (due ∙ done_due bytes whole world within is ran)
+
+  -- THE STATUS AND THE TEXT THAT ARE DUE
+  is_due : (due : Due) → due.status ≡ status_due bytes → due.text ≡ text_due bytes → IsDue bytes due
+  is_due due status text =
+      let all = subst (λ (some : Status). Says bytes due.text some) (sym status)
+      (subst (λ (some : List ℕ). Says bytes some (status_due bytes)) (sym text) (says (nat_lt input_limit (length bytes)) (outcome bytes) refl refl)) in
+      record {
+        status = status;
+        text = text;
+        done = all.done;
+        bad_script = all.bad_script;
+        too_large = all.too_large;
+        accepted = accepted due.status status;
+        has_text = all.has_text;
+      }
+
+  pub input_due : (due : Due) → input_limit < length bytes → due.status ≡ TooLarge 0 → due.text ≡ too_large_text → IsDue bytes due
+  input_due due past status text =
+      let large : nat_lt input_limit (length bytes) ≡ true = grind (arith, nat_tests) in
+      is_due due
+      (status ∙ sym (ap (λ (one : Bool). cond one (TooLarge 0) (status_for (outcome bytes))) large))
+      (text ∙ sym (ap (λ (one : Bool). cond one too_large_text (answer_to (outcome bytes))) large))
+
+  pub script_judged : (due : Due) → length bytes ≤ input_limit → IsJudged bytes due → IsDue bytes due
+  script_judged due within judged =
+      let small : nat_lt input_limit (length bytes) ≡ false = grind (arith, nat_tests) in
+      is_due due
+      (judged.status ∙ sym (ap (λ (one : Bool). cond one (TooLarge 0) (status_for (outcome bytes))) small))
+      (judged.text ∙ sym (ap (λ (one : Bool). cond one too_large_text (answer_to (outcome bytes))) small))
+
+  -- ---- and so for what a call answers
+  pub inputs_due : {E : Type 0} (result : Result Due E) → input_limit < length bytes → IfOk result (λ due. (due.status ≡ TooLarge 0) × (due.text ≡ too_large_text)) → IfOk result (IsDue bytes)
+  inputs_due (Ok due) past is = input_due due past is.0 is.1
+  inputs_due (Err error) past is = tt
+
+  pub scripts_judged : {E : Type 0} (result : Result Due E) → length bytes ≤ input_limit → IfOk result (IsJudged bytes) → IfOk result (IsDue bytes)
+  scripts_judged (Ok due) within judged = script_judged due within judged
+  scripts_judged (Err error) within judged = tt

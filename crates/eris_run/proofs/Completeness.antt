@@ -1,5 +1,5 @@
--- A script whose events are all taken is run to its end. Used where a script that no line of refuses is answered by its report.
-use Rattle.std.proofs.Common.{◌≡◌, inl, ℕ, ◌+◌, ◌≤◌, Bool, false, cond, nat_lt, IfSome, Option, Some, None, Result, Ok, Err, List, [], ◌∷◌, ◌++◌, length, ap, sym, ◌∙◌, refl, subst, arith}
+-- A script whose events are all taken is run to its end. Used where a script of which no line is refused is answered by its report.
+use Rattle.std.proofs.Common.{◌≡◌, ℕ, ◌+◌, ◌≤◌, Bool, false, cond, nat_lt, Option, Some, None, Result, Ok, Err, List, [], ◌∷◌, ◌++◌, length, ap, sym, ◌∙◌, refl, subst, arith}
 use Rattle.std.proofs.lemmas.Bool.Decides.{nat_tests}
 use Rattle.eris_base.specs.ConfigLimits.{ConfigValue}
 use Rattle.eris_script.specs.declared.event.Event.{Event}
@@ -17,9 +17,8 @@ use Rattle.eris_rules.specs.Runs.{run, run_from, taken_by, world_after}
 use Rattle.eris_rules.specs.Worlds.{WorldState, first_world}
 use Rattle.eris_run.specs.declared.refused.Refused.{Refused}
 use Rattle.eris_run.specs.declared.refused.Why.{Why}
-use Rattle.eris_run.specs.declared.status.Status.{Status}
 use Rattle.eris_run.specs.declared.status.Status.TheVariants.{Done, TooLarge}
-use Rattle.eris_run.specs.Calls.{IsAccepted, input_limit, status_due, status_for}
+use Rattle.eris_run.specs.Calls.{input_limit, status_due, status_for}
 use Rattle.eris_run.specs.ScriptRuns.{after_event, after_events, after_header, after_line, after_lines, after_read, after_said, after_text, outcome, ran_in, told, unless}
 
 -- ---- a run is one with causes
@@ -131,8 +130,3 @@ pub done_due : (bytes : List ℕ) (whole : Script) (world : WorldState) → leng
 done_due bytes whole world within is ran =
     let small : nat_lt input_limit (length bytes) ≡ false = grind (arith, nat_tests) in
     ap (λ (large : Bool). cond large (TooLarge 0) (status_for (outcome bytes))) small ∙ ap status_for (script_runs bytes whole world is ran)
-
--- what is due for all the bytes of a source is also due for a script
-pub accepted : (left : Option (List ℕ)) (status : Status) → IfSome left (λ bytes. status ≡ status_due bytes) → IfSome left (λ bytes. IsAccepted bytes status)
-accepted None status due = tt
-accepted (Some bytes) status due = λ whole world within is ran. inl (due ∙ done_due bytes whole world within is ran)

@@ -1,20 +1,18 @@
-ghost use Rattle.std.specs.Prelude.{◌≡◌, ◌≤◌, Err, length, IfOk, IfSome};
-ghost use Rattle.eris_base.specs.Faults.{Rose};
-ghost use Rattle.eris_run.specs.Calls.{input_limit, status_due, status_of};
+ghost use Rattle.std.specs.Prelude.{◌≡◌, ◌≤◌, length, IfOk};
+ghost use Rattle.eris_run.specs.Calls.{input_limit, status_of};
 ghost use Rattle.eris_run.specs.Dues.{IsDue, IsJudged, IsRefusal};
 ghost use Rattle.eris_run.specs.Texts.{too_large_text};
 
-use crate::failure::Failure;
 use crate::refused::{Refused, Stop, Why};
 use crate::script_run::run_bytes;
 use crate::status::Status;
 use crate::texts::{refusal_text, too_large_text};
-use eris_base::{NoMemory, ReadEnd, Row, Source, read_all};
+use eris_base::{NoMemory, Row};
 use eris_script::print_report;
 use std::alloc::Global;
 
-// How many bytes a script may have.
-const INPUT_LIMIT: usize = 4_194_304;
+/// How many bytes a script may have.
+pub const INPUT_LIMIT: usize = 4_194_304;
 
 /// The text that is due, and the status of a call that has written it.
 #[derive(Debug, Drop)]
@@ -25,22 +23,29 @@ pub struct Due {
     pub text: Row<u8>,
 }
 
-// What is due for the bytes that the source gives.
-pub(crate) fn due_of<S: Source>(alloc: Global, src: &mut S) -> Result<Due, Failure>
-    ensures ok { IfOk result (IsDue (S.left src.old) (S.left src.new)) }
-    ensures all { IfSome (S.left src.old) (λ left. IfOk result (λ due. due.status ≡ status_due left)) }
-    ensures fault { result ≡ Err Failure.Fault → Rose (S.faults src.old) (S.faults src.new) }
-    ensures later { S.faults src.old ≤ S.faults src.new }
+/// What is due for these bytes, which are read as a script, of version 1 or 2, and run from the start of a
+/// whole system: `Done` and the report of the world after its last event; or the first line that is refused,
+/// and why; or `TooLarge` with line 0, where they are more than [`INPUT_LIMIT`].
+///
+/// # Errors
+///
+/// [`NoMemory`] where an allocation was refused.
+#[tactic(auto, using(crate::proofs::Answering::inputs_due, crate::proofs::Answering::scripts_judged))]
+pub fn script_due(alloc: Global, bytes: &[u8]) -> Result<Due, NoMemory>
+    ensures { IfOk result (IsDue bytes.now) }
 {
-    match read_all(alloc, src, INPUT_LIMIT) {
-        Ok(script) => Ok(judge(alloc, script.as_slice())?),
-        Err(ReadEnd::Long) => Ok(refuse_input(alloc)?),
-        Err(ReadEnd::Fault) => Err(Failure::Fault),
-        Err(ReadEnd::NoMemory) => Err(Failure::NoMemory),
+    if bytes.len() > INPUT_LIMIT {
+        return refuse_input(alloc);
     }
+    judge(alloc, bytes)
 }
 
-fn refuse_input(alloc: Global) -> Result<Due, NoMemory>
+/// What is due for more bytes than an input may have, whatever they are: `too large: input`.
+///
+/// # Errors
+///
+/// [`NoMemory`] where an allocation was refused.
+pub fn refuse_input(alloc: Global) -> Result<Due, NoMemory>
     ensures { IfOk result (λ due. (due.status ≡ Status.TooLarge 0) × (due.text ≡ too_large_text)) }
 {
     let text = too_large_text(alloc)?;

@@ -12,7 +12,7 @@ pub enum Failure {
 }
 
 impl From<NoMemory> for Failure {
-    ghost use Rattle.eris_run.specs.declared.failure.Failure.TheVariants.{NoMemory as out_of_memory};
+    ghost use Rattle.eris_cmd.specs.declared.failure.Failure.TheVariants.{NoMemory as out_of_memory};
 
     ghost from_gives = { λ _ failure. failure ≡ out_of_memory };
 

@@ -12,7 +12,7 @@ use eris_base::{Failed, Sink, write_all};
 ///
 /// `Fault` where the sink failed, after a prefix of the text. `NoMemory` where there was no room; then
 /// nothing was written.
-pub fn tell<K: Sink>(snk: &mut K, text: &[u8]) -> Result<(), Failure>
+pub(crate) fn tell<K: Sink>(snk: &mut K, text: &[u8]) -> Result<(), Failure>
     ensures ok { OnOk result (Appends (K.taken snk.old) (K.taken snk.new) text.now) }
     ensures fault { result ≡ Err Failure.Fault
         → Rose (K.faults snk.old) (K.faults snk.new) × TakesFront (K.taken snk.old) (K.taken snk.new) text.now }

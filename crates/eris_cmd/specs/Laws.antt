@@ -1,0 +1,20 @@
+-- THE LAWS that the headline rests on, of the bytes of a script.
+use Rattle.std.specs.Prelude.{◌≡◌, ℕ, Some, Ok, List}
+use Rattle.std.specs.List.{flat_map}
+use Rattle.eris_script.specs.Scripts.{Script, events_of, script}
+use Rattle.eris_rules.specs.Good.{Good}
+use Rattle.eris_rules.specs.Runs.{run}
+use Rattle.eris_rules.specs.Worlds.{WorldState}
+use Rattle.eris_undisturbed_law.specs.Undisturbed.{AreAnswered, BeginsUndisturbed, IsUndisturbedScript}
+
+-- the world after a script's events is good
+abbrev pub EveryRunIsGood : Type 0
+EveryRunIsGood = (bytes : List ℕ) (whole : Script) (world : WorldState) → script bytes ≡ Ok whole → run whole.config whole.events ≡ Some world → Good world
+
+-- an undisturbed script has all that it submits answered
+abbrev pub UndisturbedAnswers : Type 0
+UndisturbedAnswers = (bytes : List ℕ) (made : Script) (world : WorldState) → IsUndisturbedScript bytes → script bytes ≡ Ok made → run made.config made.events ≡ Some world → AreAnswered world.history world.history
+
+-- and so have the first lines of any script, where they are undisturbed
+abbrev pub FrontsAnswer : Type 0
+FrontsAnswer = (bytes : List ℕ) (made : Script) (world : WorldState) → (is : BeginsUndisturbed bytes) → script bytes ≡ Ok made → run made.config made.events ≡ Some world → (middle : WorldState) × (run made.config (flat_map events_of is.said) ≡ Some middle) × AreAnswered middle.history world.history
