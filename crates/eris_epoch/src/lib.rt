@@ -5,8 +5,6 @@
 mod closing;
 mod epoch_tally;
 mod noted;
-#[cfg(test)]
-mod tests;
 
 pub use closing::shard_log;
 pub use epoch_tally::EpochTally;
