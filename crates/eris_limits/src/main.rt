@@ -1,6 +1,7 @@
 //! Runs scripts that go to the limits: as long as a script may be, as many packets sent as may be, as many bytes
-//! sent as may be, and one more of each. Prints of each run the number of its status, the first line that it
-//! wrote, and of a report the line `sent` too.
+//! sent as may be, and one more of each. Prints of each run the number of its status, and all that it wrote, but of
+//! a report only the first line and the line `sent`. The scripts that are as long as may be, and longer, are also
+//! run at once, from and to streams that give and take as much as they are asked for.
 #![tactic(auto)]
 
 mod scripts;
@@ -8,13 +9,15 @@ mod trial;
 
 use scripts::{commented, retried, sixteen_puts};
 use std::alloc::Global;
-use trial::run;
+use trial::{run, run_at_once};
 
 fn main(rt: HostRuntime) -> anyhow::Result<()> {
     let alloc = rt.alloc();
     for length in [4_194_304, 4_194_305] {
         let told = run(alloc, commented(alloc, length)?)?;
         println!(rt; "{length} bytes: {told}")?;
+        let told = run_at_once(alloc, commented(alloc, length)?)?;
+        println!(rt; "{length} bytes at once: {told}")?;
     }
     for retries in [262_143, 262_144] {
         let told = try_get(alloc, retries)?;
