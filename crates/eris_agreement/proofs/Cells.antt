@@ -1,26 +1,15 @@
 -- What is read of rows of replicas after a write at one of them, whatever the rows have: states of whole worlds
 -- and states within one epoch alike.
-use Rattle.std.proofs.Common.{◌≡◌, ◌⊎◌, inl, inr, ℕ, zero, suc, List, [], ◌∷◌, Option, Some, None, refl, sym, ap, ◌∙◌, subst}
+use Rattle.std.proofs.Common.{◌≡◌, ◌⊎◌, inl, inr, ℕ, List, Option, Some, None, refl, sym, ap, ◌∙◌, subst}
 use Rattle.std.proofs.lemmas.Bool.{cases_eq}
 use Rattle.std.specs.Prelude.{slice_get, slice_set}
 use Rattle.eris_base.specs.declared.ids.ReplicaId.{ReplicaId}
 use Rattle.eris_base.specs.declared.ids.ShardId.{ShardId}
+use Rattle.eris_base.proofs.IdLaws.{shard_equal}
 use Rattle.eris_rules.specs.ReplicaStates.{ReplicaState}
 use Rattle.eris_rules.specs.Worlds.{in_row, replica_at, with_in_row, with_replica}
-use Rattle.eris_epoch_law.proofs.Frame.{shard_equal, replica_equal}
+use Rattle.eris_epoch_law.proofs.Frame.{replica_equal, get-set, get-set_same}
 use Rattle.eris_agreement.specs.Alone.{or_first, state_of}
-
-pub get-set : {X : Type 0} (xs : List X) (i j : ℕ) (old y : X) → slice_get xs i ≡ Some old → ((j ≡ i) × (slice_get (slice_set xs i y) j ≡ Some y)) ⊎ (slice_get (slice_set xs i y) j ≡ slice_get xs j)
-get-set [] i j old y h = absurd (cc)
-get-set (x ∷ xs) zero zero old y h = inl (refl, refl)
-get-set (x ∷ xs) zero (suc j) old y h = inr refl
-get-set (x ∷ xs) (suc i) zero old y h = inr refl
-get-set (x ∷ xs) (suc i) (suc j) old y h = elim (get-set xs i j old y h) [ inl e ↦ inl (ap suc e.0, e.1) | inr e ↦ inr e ]
-
-pub get-set_same : {X : Type 0} (xs : List X) (i : ℕ) (old y : X) → slice_get xs i ≡ Some old → slice_get (slice_set xs i y) i ≡ Some y
-get-set_same [] i old y h = absurd (cc)
-get-set_same (x ∷ xs) zero old y h = refl
-get-set_same (x ∷ xs) (suc i) old y h = get-set_same xs i old y h
 
 module _ {X : Type 0} where
   cell_write : (rows : List (List X)) (s r : ℕ) (y : X) (row : List X) (a b : ℕ) → slice_get rows s ≡ Some row

@@ -1,11 +1,12 @@
 -- What an epoch leaves when it closes is of that epoch, so nothing changes of the epochs below it.
-use Rattle.std.proofs.Common.{◌≡◌, ◌⊎◌, inl, inr, ℕ, ◌<◌, ◌≤◌, List, [], ◌∷◌, ◌++◌, map, Bool, true, false, cond, nat_lt, not, ◌&&◌, ◌==◌, refl, sym, ap, ◌∙◌, subst, arith}
+use Rattle.std.proofs.Common.{◌≡◌, ◌⊎◌, inl, inr, ℕ, ◌<◌, ◌≤◌, List, [], ◌∷◌, ◌++◌, map, Bool, true, false, cond, nat_lt, not, ◌&&◌, ◌==◌, refl, sym, ap, ◌∙◌, subst, arith, append-nil}
 use Rattle.std.specs.List.{filter, flat_map, list_all}
 use Rattle.std.proofs.lemmas.Bool.{and_parts, eqb-true}
 use Rattle.std.proofs.lemmas.Bool.Decides.{nat_tests}
 use Rattle.eris_base.specs.declared.ids.Epoch.{Epoch}
 use Rattle.eris_base.specs.ConfigLimits.{ConfigValue}
 use Rattle.eris_base.specs.Each.{Each}
+use Rattle.eris_base.proofs.IdLaws.{epoch_equal}
 use Rattle.eris_txn.specs.declared.packet.Packet.{Packet}
 use Rattle.eris_log.specs.PartValues.{PartValue}
 use Rattle.eris_log.specs.Places.{any_among}
@@ -20,7 +21,6 @@ use Rattle.eris_rules.specs.InPlace.{is_held_right, is_right_part}
 use Rattle.eris_epoch_law.specs.Members.{In}
 use Rattle.eris_epoch_law.proofs.Members.{Each-at, Each-by_In, In-append, any_witness, any_from}
 use Rattle.eris_agreement.specs.ClosedBelow.{closed_below}
-use Rattle.eris_agreement.proofs.ReplicaLeaves.{epoch_equal}
 
 -- ---- packets are members by their test
 pub listed-In : (packets : List Packet) (packet : Packet) → is_listed packets packet ≡ true → In packet packets
@@ -75,10 +75,6 @@ none_below epoch current (packet ∷ more) le h =
     let same : packet.stamp.epoch.0 ≡ current.0 = ap (λ (e : Epoch). e.0) h.0 in
     let out : nat_lt packet.stamp.epoch.0 epoch.0 ≡ false = grind (arith, nat_tests) in
     ap (λ b. cond b (packet ∷ filter (λ (p : Packet). nat_lt p.stamp.epoch.0 epoch.0) more) (filter (λ (p : Packet). nat_lt p.stamp.epoch.0 epoch.0) more)) out ∙ none_below epoch current more le h.1
-
-append-nil : {X : Type 0} (xs : List X) → xs ++ [] ≡ xs
-append-nil [] = refl
-append-nil (x ∷ xs) = ap (λ rest. x ∷ rest) (append-nil xs)
 
 -- nothing changes below, when an epoch that isn't below closes
 pub closed_below-kept : (epoch current : Epoch) (closed more : List Packet) → epoch.0 ≤ current.0 → Each (λ packet. packet.stamp.epoch ≡ current) more → closed_below epoch (closed ++ more) ≡ closed_below epoch closed

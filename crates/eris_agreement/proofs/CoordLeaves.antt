@@ -9,6 +9,7 @@ use Rattle.eris_base.specs.declared.ids.Epoch.{Epoch}
 use Rattle.eris_base.specs.declared.ids.ReplicaId.{ReplicaId}
 use Rattle.eris_base.specs.declared.ids.ShardId.{ShardId}
 use Rattle.eris_base.specs.ConfigLimits.{ConfigValue}
+use Rattle.eris_base.proofs.IdLaws.{epoch_equal}
 use Rattle.eris_log.specs.PartValues.{PartValue}
 use Rattle.eris_epoch.specs.EpochTallies.{with_noted, is_ready}
 use Rattle.eris_msg.specs.declared.message.Message.{Message}
@@ -18,7 +19,6 @@ use Rattle.eris_rules.specs.EpochCoords.{epoch_coord_step}
 use Rattle.eris_rules.specs.EpochMessages.{EpochMessage, Stamped, Instructs, Notifies, Exchanges, Responds, Find, Has, TempDropped}
 use Rattle.eris_rules.specs.InPlace.{is_in_place_at_coordinator}
 use Rattle.eris_rules.specs.Outer.{Inner, inner_of}
-use Rattle.eris_agreement.proofs.ReplicaLeaves.{epoch_equal}
 
 -- with one more noted part
 abbrev pub noting : CoordState → ReplicaId → PartValue → CoordState

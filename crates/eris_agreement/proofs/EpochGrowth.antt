@@ -12,7 +12,7 @@ use Rattle.eris_base.specs.declared.ids.ShardId.{ShardId}
 use Rattle.eris_base.specs.declared.ids.TxnId.{TxnId}
 use Rattle.eris_base.specs.ConfigLimits.{ConfigValue}
 use Rattle.eris_base.specs.Each.{Each}
-use Rattle.eris_base.proofs.Each.{Each-weaker}
+use Rattle.eris_base.proofs.Each.{Each-weaker, Each-any}
 use Rattle.eris_txn.specs.declared.body.Body.{Body}
 use Rattle.eris_txn.specs.declared.packet.Packet.{Packet}
 use Rattle.eris_txn.specs.Bodies.{participants_of}
@@ -34,10 +34,11 @@ use Rattle.eris_rules.specs.ReplicaStates.{ReplicaState, ReplicaOut, begun}
 use Rattle.eris_rules.specs.Replicas.{steps_in, steps, asks_start, promises}
 use Rattle.eris_rules.specs.Worlds.{replica_at, with_replica}
 use Rattle.eris_epoch_law.specs.Members.{In}
-use Rattle.eris_epoch_law.proofs.Members.{Each-at, Each-any, Each-map, Each-flat_map, In-append, In-left}
+use Rattle.eris_epoch_law.proofs.Members.{Each-at, Each-map, Each-flat_map, In-append, In-left}
+use Rattle.eris_epoch_law.proofs.Frame.{get-set, get-set_same}
 use Rattle.eris_agreement.specs.Alone.{stamping_or, stamping_of, state_of}
 use Rattle.eris_agreement.specs.Servers.{Servers}
-use Rattle.eris_agreement.proofs.Cells.{state_of-some, state-same, state-other, everywhere, get-set, get-set_same}
+use Rattle.eris_agreement.proofs.Cells.{state_of-some, state-same, state-other, everywhere}
 use Rattle.eris_agreement.proofs.ClientAsks.{IsAsk}
 use Rattle.eris_agreement.proofs.CoordLeaves.{CoordLeaf, noting}
 use Rattle.eris_agreement.proofs.ReplicaLeaves.{ReplicaLeaf}

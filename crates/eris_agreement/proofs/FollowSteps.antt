@@ -13,7 +13,8 @@ use Rattle.eris_base.specs.declared.ids.ShardId.{ShardId}
 use Rattle.eris_base.specs.declared.ids.TxnId.{TxnId}
 use Rattle.eris_base.specs.ConfigLimits.{ConfigValue}
 use Rattle.eris_base.specs.Each.{Each}
-use Rattle.eris_base.proofs.Each.{Each-weaker}
+use Rattle.eris_base.proofs.Each.{Each-weaker, Each-any}
+use Rattle.eris_base.proofs.IdLaws.{epoch_equal}
 use Rattle.eris_txn.specs.declared.body.Body.{Body}
 use Rattle.eris_txn.specs.declared.packet.Packet.{Packet}
 use Rattle.eris_txn.specs.Bodies.{participants_of}
@@ -38,7 +39,7 @@ use Rattle.eris_epoch_law.specs.EpochWorlds.{EpochSystem, EpochWorld, member_of,
 use Rattle.eris_epoch_law.specs.Members.{In}
 use Rattle.eris_epoch_law.specs.Reading.{read}
 use Rattle.eris_epoch_law.proofs.Frame.{read-some, written-same}
-use Rattle.eris_epoch_law.proofs.Members.{Each-any, Each-told, Each-flat_map, In-append, In-left, In-right}
+use Rattle.eris_epoch_law.proofs.Members.{Each-told, Each-flat_map, In-append, In-left, In-right}
 use Rattle.eris_agreement.specs.Alone.{stamping_of, state_of, IsAlone, Follows}
 use Rattle.eris_agreement.specs.Servers.{Servers}
 use Rattle.eris_agreement.proofs.Cells.{cell, state_of-some, state-same, state-other, everywhere}
@@ -46,7 +47,7 @@ use Rattle.eris_agreement.proofs.ClientAsks.{IsAsk, AsksOnly}
 use Rattle.eris_agreement.proofs.CoordLeaves.{CoordLeaf, noting}
 use Rattle.eris_agreement.proofs.EpochGrowth.{each_told, stamping-made, stamping-there, stamping-other, stamping-more}
 use Rattle.eris_agreement.proofs.Moves.{Move, Rests, ReplicaMoves, CoordinatorMoves, AsksAgain, Stamps, Replaces, Asks, replica_moved, coordinator_moved, stamped, asked_again, me_at, Came}
-use Rattle.eris_agreement.proofs.ReplicaLeaves.{Means, Says, ReplicaLeaf, epoch_equal}
+use Rattle.eris_agreement.proofs.ReplicaLeaves.{Means, Says, ReplicaLeaf}
 use Rattle.eris_agreement.proofs.SaidIn.{SaidIn, unwrap, SaysNothing, nothing_said, stamped_sends}
 
 -- what steps within epochs say from here is said in these epochs; and a stamp names its sequencer's epoch

@@ -1,12 +1,13 @@
 -- Over any two moments of a run: epochs, promises, the current epoch and the target never fall; what was sent and
 -- what was stamped stays; what was closed below the current epoch stays as it is. And each message that was sent
 -- has a cause at an earlier moment.
-use Rattle.std.proofs.Common.{◌≡◌, ◌⊎◌, inl, inr, ℕ, zero, suc, ◌<◌, ◌≤◌, List, refl, sym, ◌∙◌, subst, arith}
+use Rattle.std.proofs.Common.{◌≡◌, inl, inr, ℕ, zero, suc, ◌<◌, ◌≤◌, List, refl, sym, ◌∙◌, subst, arith}
 use Rattle.eris_base.specs.declared.ids.Epoch.{Epoch}
 use Rattle.eris_base.specs.declared.ids.Node.TheVariants.{Coordinator}
 use Rattle.eris_base.specs.declared.ids.ReplicaId.{ReplicaId}
 use Rattle.eris_base.specs.declared.ids.ShardId.{ShardId}
 use Rattle.eris_base.specs.ConfigLimits.{ConfigValue}
+use Rattle.eris_base.proofs.Numbers.{last_or}
 use Rattle.eris_txn.specs.declared.packet.Packet.{Packet}
 use Rattle.eris_msg.specs.declared.message.Message.{Message}
 use Rattle.eris_msg.specs.declared.outgoing.Outgoing.{Outgoing}
@@ -26,9 +27,6 @@ use Rattle.eris_agreement.proofs.CoordLeaves.{CoordLeaf, noting}
 use Rattle.eris_agreement.proofs.EpochGrowth.{TellsSent, IsAfter, is_after}
 use Rattle.eris_agreement.proofs.EpochInvariants.{HoldOfEpochs, IsNotedRight, noted_more, holds_at}
 use Rattle.eris_agreement.proofs.Moves.{Move, Rests, ReplicaMoves, CoordinatorMoves, AsksAgain, Nudges, Stamps, Replaces, Asks, next_move}
-
-pub last_or : (j k : ℕ) → j ≤ suc k → (j ≤ k) ⊎ (j ≡ suc k)
-last_or j k h = grind arith
 
 -- what holds from each moment to the next, and of two that are the same, and in turn, holds over any two
 pub over : (P : ℕ → ℕ → Type 0) → ((k : ℕ) → P k k) → ((j k : ℕ) → j ≤ k → P j k → P j (suc k)) → (j k : ℕ) → j ≤ k → P j k

@@ -1,16 +1,8 @@
 -- What is said in an epoch is of that epoch: so is the packet, place, part or stamp that a message carries.
-use Rattle.std.proofs.Common.{◌≡◌, ℕ, List, [], ◌∷◌, Option, Some, None, refl, subst}
-use Rattle.eris_base.specs.declared.ids.Epoch.{Epoch}
-use Rattle.eris_base.specs.declared.ids.Place.{Place}
-use Rattle.eris_base.specs.declared.ids.ShardId.{ShardId}
-use Rattle.eris_base.specs.Each.{Each}
+use Rattle.std.proofs.Common.{◌≡◌, Option, Some, None, refl, subst}
 use Rattle.eris_msg.specs.declared.message.Message.{Message}
-use Rattle.eris_rules.specs.Outer.{places_in, outer, Inner, inner_of, IsOf}
-use Rattle.eris_rules.proofs.OuterLaws.{Sends, outer-inner_of}
-
-places_of_epoch : (epoch : Epoch) (pairs : List (ShardId × ℕ)) → Each (λ (place : Place). place.epoch ≡ epoch) (places_in epoch pairs)
-places_of_epoch epoch [] = tt
-places_of_epoch epoch (pair ∷ pairs) = (refl, places_of_epoch epoch pairs)
+use Rattle.eris_rules.specs.Outer.{outer, Inner, inner_of, IsOf}
+use Rattle.eris_rules.proofs.OuterLaws.{Sends, outer-inner_of, places_of_epoch}
 
 abbrev pub IsOfItsEpoch : Option Inner → Type 0
 IsOfItsEpoch None = Unit {0}

@@ -1,9 +1,8 @@
 -- LOCALITY: after a run a replica's state is the fold of its own steps over what its own events brought to it,
 -- whatever happened elsewhere in between.
-use Rattle.std.proofs.Common.{◌≡◌, inl, inr, ℕ, zero, suc, List, [], ◌∷◌, Bool, true, false, cond, ◌&&◌, ◌==◌, Option, Some, None, option_map, refl, sym, ap, ◌∙◌, subst, arith}
+use Rattle.std.proofs.Common.{◌≡◌, inl, inr, ℕ, zero, suc, List, [], ◌∷◌, Bool, true, false, cond, ◌==◌, Option, Some, None, option_map, refl, sym, ap, ◌∙◌, subst}
 use Rattle.std.specs.Prelude.{slice_get}
-use Rattle.std.proofs.lemmas.Bool.{cases_Bool, and_parts, eqb-true}
-use Rattle.std.proofs.lemmas.Bool.Decides.{nat_tests}
+use Rattle.std.proofs.lemmas.Bool.{cases_Bool, and_parts, eqb-true, and_from}
 use Rattle.eris_base.specs.declared.ids.ClientId.{ClientId}
 use Rattle.eris_base.specs.declared.ids.Epoch.{Epoch}
 use Rattle.eris_base.specs.declared.ids.Node.{Node}
@@ -12,6 +11,8 @@ use Rattle.eris_base.specs.declared.ids.ReplicaId.{ReplicaId}
 use Rattle.eris_base.specs.declared.ids.ShardId.{ShardId}
 use Rattle.eris_base.specs.declared.ids.TxnId.{TxnId}
 use Rattle.eris_base.specs.ConfigLimits.{ConfigValue}
+use Rattle.eris_base.proofs.Booleans.{number_self}
+use Rattle.eris_base.proofs.IdLaws.{shard_equal}
 use Rattle.eris_txn.specs.PlanValues.{PlanValue}
 use Rattle.eris_msg.specs.declared.message.Message.{Message}
 use Rattle.eris_msg.specs.declared.outgoing.Outgoing.{Outgoing}
@@ -22,7 +23,7 @@ use Rattle.eris_rules.specs.Happenings.{after_replica, replica_steps, replica_ta
 use Rattle.eris_rules.specs.ReplicaStates.{ReplicaState}
 use Rattle.eris_rules.specs.Replicas.{replica_step}
 use Rattle.eris_rules.specs.Worlds.{WorldState, first_world, replica_at, client_at, has_crashed, with_sends, no_longer_waiting}
-use Rattle.eris_epoch_law.proofs.Frame.{shard_equal, replica_equal}
+use Rattle.eris_epoch_law.proofs.Frame.{replica_equal}
 use Rattle.eris_agreement.specs.OwnSteps.{lowest, is_it, brought, replica_hears, hears, input_of, after_input, input_now, own_steps}
 use Rattle.eris_agreement.specs.WorldMoments.{perhaps, moment_from, world_at}
 use Rattle.eris_agreement.proofs.Cells.{cell, cell-same}
@@ -30,12 +31,6 @@ use Rattle.eris_agreement.proofs.Cells.{cell, cell-same}
 map_same : {X : Type 0} (x : Option X) → option_map (λ y. y) x ≡ x
 map_same None = refl
 map_same (Some x) = refl
-
-number_self : (n : ℕ) → (n == n) ≡ true
-number_self n = grind (arith, nat_tests)
-
-both_true : (a b : Bool) → a ≡ true → b ≡ true → (a && b) ≡ true
-both_true a b h k = grind arith
 
 module _ (config : ConfigValue) (shard : ShardId) (replica : ReplicaId) where
   -- the replica after the event is as its input says
@@ -84,7 +79,7 @@ module _ (config : ConfigValue) (shard : ShardId) (replica : ReplicaId) where
   not_it a b apart s r =
       let one : (a.0 == shard.0) ≡ true = ap (λ (x : ShardId). a.0 == x.0) s ∙ number_self a.0 in
       let two : (b.0 == replica.0) ≡ true = ap (λ (x : ReplicaId). b.0 == x.0) r ∙ number_self b.0 in
-      let both : is_it shard replica a b ≡ true = both_true _ _ one two in
+      let both : is_it shard replica a b ≡ true = and_from _ _ one two in
       absurd (cc)
 
   takes : (world : WorldState) (a : ShardId) (b : ReplicaId) (input : ReplicaInput) → Local world (replica_takes config world a b input) (cond (has_crashed world shard replica) None (brought shard replica a b input))

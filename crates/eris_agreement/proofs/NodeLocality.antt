@@ -13,6 +13,8 @@ use Rattle.eris_base.specs.declared.ids.ReplicaId.{ReplicaId}
 use Rattle.eris_base.specs.declared.ids.ShardId.{ShardId}
 use Rattle.eris_base.specs.declared.ids.TxnId.{TxnId}
 use Rattle.eris_base.specs.ConfigLimits.{ConfigValue}
+use Rattle.eris_base.proofs.Booleans.{number_self}
+use Rattle.eris_base.proofs.IdLaws.{client_equal}
 use Rattle.eris_txn.specs.declared.history.HistoryEvent.{HistoryEvent}
 use Rattle.eris_txn.specs.PlanValues.{PlanValue}
 use Rattle.eris_msg.specs.declared.message.Message.{Message}
@@ -25,11 +27,11 @@ use Rattle.eris_rules.specs.ClientStates.{ClientState}
 use Rattle.eris_rules.specs.Happenings.{after_client, after_coordinator, after_replica, after_sequencer, aborts_plan, arrives, client_acts, client_acts_by, comes_to, coordinator_takes, delivers, flows, happens, loses, plan_of_transaction, replica_steps, replica_takes, sequencer_takes, submitted_at}
 use Rattle.eris_rules.specs.ReplicaStates.{ReplicaState}
 use Rattle.eris_rules.specs.Worlds.{WorldState, client_at, first_world, has_crashed, no_longer_waiting, replica_at, with_event, with_sends}
+use Rattle.eris_epoch_law.proofs.Frame.{get-set, get-set_same}
 use Rattle.eris_agreement.specs.Continuing.{Continues}
 use Rattle.eris_agreement.specs.NodeSteps.{ClientAct, NoStep, NodeStep, OfClient, OfCoordinator, OfReplica, OfSequencer, Replaces, abort_of, acted, client_after, client_event, client_sends, client_steps, coordinator_after, coordinator_steps, delivery_of, event_of_step, heard_by, replica_sends, sends_of_step, stampings_after, stampings_steps, step_at, step_now, step_of}
 use Rattle.eris_agreement.specs.OwnSteps.{lowest}
 use Rattle.eris_agreement.specs.WorldMoments.{moment_from, perhaps, world_at}
-use Rattle.eris_agreement.proofs.Cells.{get-set, get-set_same}
 use Rattle.eris_agreement.proofs.Growth.{over}
 
 -- ---- lists that go on
@@ -110,12 +112,6 @@ module _ (config : ConfigValue) where
   -- ---- a client
   number_apart : (a b : ℕ) → (a ≡ b → ⊥) → (b == a) ≡ false
   number_apart a b apart = grind (arith, nat_tests)
-
-  number_self : (n : ℕ) → (n == n) ≡ true
-  number_self n = grind (arith, nat_tests)
-
-  client_equal : (a b : ClientId) → a.0 ≡ b.0 → a ≡ b
-  client_equal a b e = λ i. record { 0 = e i }
 
   acted-own : (client : ClientId) (act : ClientAct) (state : ClientState) → acted config client state client act ≡ (act (record { config = config; client = client }) state).state
   acted-own client act state = ap (λ b. cond b (act (record { config = config; client = client }) state).state state) (number_self client.0)

@@ -10,8 +10,10 @@ use Rattle.eris_base.specs.declared.ids.ShardId.{ShardId}
 use Rattle.eris_base.specs.ConfigLimits.{ConfigValue}
 use Rattle.eris_base.specs.Each.{Each}
 use Rattle.eris_base.proofs.Each.{Each-right, Each-weaker}
+use Rattle.eris_base.proofs.Numbers.{last_or}
 use Rattle.eris_epoch.specs.Closing.{shard_log}
 use Rattle.eris_msg.specs.declared.message.Message.{Message}
+use Rattle.eris_msg.proofs.LastItems.{at_end}
 use Rattle.eris_script.specs.declared.event.Event.{Event}
 use Rattle.eris_sequencer.specs.declared.stamping.Stamping.{Stamping}
 use Rattle.eris_sequencer.specs.Sequencers.{new_stamping, first_stampings}
@@ -40,7 +42,7 @@ use Rattle.eris_agreement.specs.WorldMoments.{moment_from}
 use Rattle.eris_agreement.proofs.Cells.{state_of-some}
 use Rattle.eris_agreement.proofs.EpochInvariants.{first_states, holds_at}
 use Rattle.eris_agreement.proofs.FollowSteps.{SayTheirEpochs, by_input, by_notice, nudge_happens, inner_at, same_member, follow}
-use Rattle.eris_agreement.proofs.Growth.{closed_kept, last_or}
+use Rattle.eris_agreement.proofs.Growth.{closed_kept}
 use Rattle.eris_agreement.proofs.Moves.{me_at, Came, next_move}
 use Rattle.eris_agreement.proofs.ReplicaLeaves.{Means}
 use Rattle.eris_agreement.proofs.SaidIn.{SaidIn, fine_said}
@@ -51,10 +53,6 @@ get-front [] ys k lt = absurd (omega arith)
 get-front (x ∷ xs) ys zero lt = refl
 get-front (x ∷ xs) ys (suc k) lt = get-front xs ys k (omega arith)
 
-get-last : {X : Type 0} (xs : List X) (x : X) → slice_get (xs ++ x ∷ []) (length xs) ≡ Some x
-get-last [] x = refl
-get-last (y ∷ xs) x = get-last xs x
-
 pub moment-front : (system : EpochSystem) (own more : List EpochEvent) (k : ℕ) → k ≤ length own → moment system (own ++ more) k ≡ moment system own k
 unfolding moment
 moment-front system own more zero le = refl
@@ -62,7 +60,7 @@ moment-front system own more (suc k) le = (λ i. perhaps system (moment-front sy
 
 moment-last : (system : EpochSystem) (own : List EpochEvent) (event : EpochEvent) → moment system (own ++ event ∷ []) (suc (length own)) ≡ happens system (moment system own (length own)) event
 unfolding moment
-moment-last system own event = (λ i. perhaps system (moment-front system own (event ∷ []) (length own) (omega arith) i) (get-last own event i))
+moment-last system own event = (λ i. perhaps system (moment-front system own (event ∷ []) (length own) (omega arith) i) (at_end own event i))
 
 moment-more : (system : EpochSystem) (own : List EpochEvent) (event : EpochEvent) (k : ℕ) → length own ≡ k → moment system (own ++ event ∷ []) (suc k) ≡ happens system (moment system own k) event
 moment-more system own event k e = subst (λ n. moment system (own ++ event ∷ []) (suc n) ≡ happens system (moment system own n) event) e (moment-last system own event)

@@ -7,6 +7,7 @@ use Rattle.std.proofs.lemmas.Bool.{cond_both, eqb-true, and_parts, or_cases, ltb
 use Rattle.std.proofs.lemmas.Bool.Decides.{nat_tests}
 use Rattle.eris_base.specs.declared.ids.Epoch.{Epoch}
 use Rattle.eris_base.specs.declared.ids.ShardId.{ShardId}
+use Rattle.eris_base.proofs.IdLaws.{epoch_equal}
 use Rattle.eris_txn.specs.declared.packet.Packet.{Packet}
 use Rattle.eris_msg.specs.declared.message.Message.{Message}
 use Rattle.eris_rules.specs.declared.replica_input.ReplicaInput.{ReplicaInput}
@@ -16,10 +17,6 @@ use Rattle.eris_rules.specs.InPlace.{is_in_place_at_replica}
 use Rattle.eris_rules.specs.Outer.{Inner, inner_of}
 use Rattle.eris_rules.specs.ReplicaStates.{Identity, ReplicaState, ReplicaOut, begun, is_stopped}
 use Rattle.eris_rules.specs.Replicas.{still, steps, asks_start, later_txn, takes_other, takes_part_in, takes_inner, may_promise, promises, epoch_ask_row, may_begin, start_epoch_row, takes_outer, takes_said, takes, message_step, probe_step, timer_step, replica_step}
-
--- epochs are their numbers
-pub epoch_equal : (a b : Epoch) → a.0 ≡ b.0 → a ≡ b
-epoch_equal a b e = λ i. record { 0 = e i }
 
 -- an input's meaning within the epoch: the message of the epoch in the message, which is in place; or the same timer
 pub data Means (me : Identity) (epoch : Epoch) : ReplicaInput → EpochInput → Type 0 where

@@ -5,7 +5,7 @@ use Rattle.std.proofs.Common.{◌≡◌, ◌≤◌, ◌^◌, ◌==◌, ℕ, suc,
 use Rattle.std.specs.Prelude.{⊤}
 use Rattle.std.specs.List.{filter, list_any}
 use Rattle.std.specs.Option.{option_map}
-use Rattle.std.proofs.lemmas.Bool.{lt-ltb, le-leb, eqb-true, eq-eqb}
+use Rattle.std.proofs.lemmas.Bool.{lt-ltb, le-leb, eq-eqb, and_from}
 use Rattle.eris_base.specs.declared.ids.Epoch.{Epoch}
 use Rattle.eris_base.specs.declared.ids.Phase.{Phase}
 use Rattle.eris_base.specs.declared.ids.Phase.TheVariants as phases
@@ -16,6 +16,8 @@ use Rattle.eris_base.specs.Each.{Each}
 use Rattle.eris_base.specs.Places.{number_in}
 use Rattle.eris_base.specs.TxnIds.{same_id}
 use Rattle.eris_base.proofs.Each.{Each-append, Each-filter}
+use Rattle.eris_base.proofs.Booleans.{left_of, right_of}
+use Rattle.eris_base.proofs.IdLaws.{shard_by_test}
 use Rattle.eris_txn.specs.declared.answer.Answer.{Answer}
 use Rattle.eris_txn.specs.declared.answer.Answer.TheVariants.{Committed, Aborted}
 use Rattle.eris_txn.specs.declared.body.Body.{Body}
@@ -32,6 +34,7 @@ use Rattle.eris_txn.specs.Keys.{Values, same_key, with_value}
 use Rattle.eris_txn.specs.Operations.{key_of, has_value, sum_of, left_by, yes_or_no, answered, after, after_all, answers}
 use Rattle.eris_txn.specs.Plans.{written}
 use Rattle.eris_txn.proofs.BodyLaws.{has_shard-participants}
+use Rattle.eris_txn.proofs.ValueLaws.{length-answers}
 use Rattle.eris_epoch.proofs.SameLaws.{same_list-true}
 use Rattle.eris_locks.specs.declared.done.Done.{Done}
 use Rattle.eris_locks.specs.declared.shard_packet.ShardPacket.{ShardPacket}
@@ -45,7 +48,6 @@ use Rattle.eris_msg.proofs.FieldLaws.{at_most, tag_is}
 use Rattle.eris_rules.specs.InPlace.{names_exactly, names_participants}
 use Rattle.eris_answer_law.specs.Answering.{PacketIsRight, AnswerFits, KeptFits, DoneFits}
 use Rattle.eris_rules.specs.ReplicaAnswers.{is_late_above, late_answers, prompt_answer, answer_after, store_after, store_answers}
-use Rattle.eris_answer_law.proofs.FieldTests.{both, left_of, right_of}
 
 -- ---- values
 abbrev ValueFits : ℕ → Type 0
@@ -133,16 +135,12 @@ answered-fits (Cas key expected value) before h = yes_or_no-fits (has_value befo
 answers-fit : (ops : List Op) (values : Values) (before : List OpAnswer) → Each OpFits ops → ValuesFit values → items_fit (λ _. f.op_answer) before (answers ops values) ≡ true
 answers-fit [] values before h k = refl
 answers-fit (op ∷ ops) values before h k =
-    both _ _ (answered-fits op (values (key_of op)) (k (key_of op)))
+    and_from _ _ (answered-fits op (values (key_of op)) (k (key_of op)))
     (answers-fit ops (after op values) (before ++ answered op (values (key_of op)) ∷ []) h.1 (after-fits op values h.0 k))
-
-length-answers : (ops : List Op) (values : Values) → length (answers ops values) ≡ length ops
-length-answers [] values = refl
-length-answers (op ∷ ops) values = ap suc (length-answers ops (after op values))
 
 read-fit : (locks : List Lock) (values : Values) (before : List (Option ℕ)) → ValuesFit values → items_fit (λ _. f.found) before (map (λ lock. values lock.key) locks) ≡ true
 read-fit [] values before k = refl
-read-fit (lock ∷ locks) values before k = both _ _ (k lock.key) (read-fit locks values (before ++ values lock.key ∷ []) k)
+read-fit (lock ∷ locks) values before k = and_from _ _ (k lock.key) (read-fit locks values (before ++ values lock.key ∷ []) k)
 
 length-read : (locks : List Lock) (values : Values) → length (map (λ lock. values lock.key) locks) ≡ length locks
 length-read [] values = refl
@@ -165,8 +163,8 @@ aborted-fits = refl
 
 answer_of-fits : (body : Body) (values : Values) → CutFits body → ValuesFit values → AnswerFits (answer_of body values)
 unfolding f.answer f.answer_fits f.op_answers f.values
-answer_of-fits (Independent ops) values h k = both _ _ (subst IsFew (sym (length-answers ops values)) h.0) (answers-fit ops values [] h.1 k)
-answer_of-fits (Prelim locks) values h k = both _ _ (subst IsFew (sym (length-read locks values)) h) (read-fit locks values [] k)
+answer_of-fits (Independent ops) values h k = and_from _ _ (subst IsFew (sym (length-answers ops values)) h.0) (answers-fit ops values [] h.1 k)
+answer_of-fits (Prelim locks) values h k = and_from _ _ (subst IsFew (sym (length-read locks values)) h) (read-fit locks values [] k)
 answer_of-fits (Commit keys writes) values h k = refl
 answer_of-fits (Abort keys) values h k = refl
 
@@ -372,7 +370,7 @@ module _ {X : Type 0} (test : X → Bool) where
 few_left : (count all : ℕ) → IsFew all → 1 ≤ count → count ≤ all → IsFew count
 few_left count all h some few =
     let most = at_most 1 32 all h in
-    tag_is 1 32 count (lt-ltb count 256 (omega arith)) (both _ _ (le-leb 1 count some) (le-leb count 32 (omega arith)))
+    tag_is 1 32 count (lt-ltb count 256 (omega arith)) (and_from _ _ (le-leb 1 count some) (le-leb count 32 (omega arith)))
 
 of_op : (op : Op) → f.op.fits op ≡ true → OpFits op
 unfolding f.op f.op_fits
@@ -425,14 +423,11 @@ named_shard (place ∷ places) shard = by_test (place.0.0 == shard.0) (named_sha
     by_test true h = refl
     by_test false h = h
 
-shard_exact : (some other : ShardId) → (some.0 == other.0) ≡ true → some ≡ other
-shard_exact some other h = let e : some.0 ≡ other.0 = eqb-true some.0 other.0 h in λ i. record { 0 = e i }
-
 -- the packet has a key of each shard that it names
 pub on_named : (packet : Packet) (shard : ShardId) → names_participants packet ≡ true → names_shard shard packet ≡ true → any_on (keys_of packet.body) shard ≡ true
 unfolding names_exactly
 on_named packet shard exact named =
-    let shards : map (λ place. place.0) packet.stamp.places ≡ participants_of packet.body = same_list-true (λ some other. some.0 == other.0) shard_exact (λ some. eq-eqb some.0 some.0 refl) (map (λ place. place.0) packet.stamp.places) (participants_of packet.body) exact in
+    let shards : map (λ place. place.0) packet.stamp.places ≡ participants_of packet.body = same_list-true (λ some other. some.0 == other.0) shard_by_test (λ some. eq-eqb some.0 some.0 refl) (map (λ place. place.0) packet.stamp.places) (participants_of packet.body) exact in
     sym (has_shard-participants packet.body shard) ∙ ap (λ (list : List ShardId). has_shard list shard) (sym shards) ∙ named_shard packet.stamp.places shard ∙ named
 
 cut-fits : (shard : ShardId) (packet : Packet) → PacketIsRight packet → names_shard shard packet ≡ true → ShardPacketFits (cut shard packet)

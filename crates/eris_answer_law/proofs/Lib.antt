@@ -1,2 +1,1 @@
 pub mod AnswerRanges
-pub mod FieldTests

@@ -70,11 +70,6 @@ pub lines_from-append : (some more : List (TxnId × Outcome)) → lines_from (so
 lines_from-append [] more = refl
 lines_from-append (entry ∷ some) more = ap (λ lines. record { id = entry.0; outcome = entry.1 } ∷ lines) (lines_from-append some more)
 
--- what is not there
-pub none_from : {X : Type 0} (found : Option X) → is_some found ≡ false → found ≡ None
-none_from None h = refl
-none_from (Some x) h = cc
-
 pub length-lines_from : (entries : List (TxnId × Outcome)) → length (lines_from entries) ≡ length entries
 length-lines_from [] = refl
 length-lines_from (entry ∷ entries) = ap (λ n. suc n) (length-lines_from entries)

@@ -1,5 +1,5 @@
-use Rattle.std.proofs.Common.{◌≡◌, ◌⊎◌, ℕ, suc, ◌≤◌, max, nat_lt, nat_le, Bool, true, false, cond, ◌||◌, Option, Some, None, List, [], ◌∷◌, ◌++◌, is_some, refl, ap, sym, ◌∙◌, inl, inr, arith}
-use Rattle.std.proofs.lemmas.Bool.{both_ways, cases_Bool, or_parts}
+use Rattle.std.proofs.Common.{◌≡◌, ◌⊎◌, ℕ, suc, ◌≤◌, max, nat_lt, Bool, true, false, cond, ◌||◌, Option, Some, None, List, [], ◌∷◌, ◌++◌, is_some, refl, ap, sym, ◌∙◌, inl, inr, arith}
+use Rattle.std.proofs.lemmas.Bool.{both_ways, cases_Bool, or_parts, leb-true, le-leb}
 use Rattle.std.proofs.lemmas.Bool.Decides.{nat_tests}
 use Rattle.std.specs.Option.{option_map}
 use Rattle.std.specs.Prelude.{IsFalse}
@@ -49,7 +49,7 @@ has_line-front (line ∷ front) back id h = by_test (same_id line.id id) (has_li
     by_test true later h = refl
     by_test false later h = later h
 
-has_line-last : (front : List Line) (line : Line) → has_line (front ++ line ∷ []) line.id ≡ true
+pub has_line-last : (front : List Line) (line : Line) → has_line (front ++ line ∷ []) line.id ≡ true
 has_line-last [] line = or_true _ _ (same_id-refl line.id)
 has_line-last (first ∷ front) line = by_test (same_id first.id line.id) (has_line-last front line)
   where
@@ -191,19 +191,13 @@ no_line lines id none (event ∷ before) = (of event, no_line lines id none befo
     of (Answered other answer) = λ has it. absurd (both_ways _ (sym (is_some-place lines id) ∙ ap is_some none) it)
     of (Told asker other answer) = tt
 
-le_from : (m n : ℕ) → nat_le m n ≡ true → m ≤ n
-le_from m n h = grind (arith, nat_tests)
-
-from_le : (m n : ℕ) → m ≤ n → nat_le m n ≡ true
-from_le m n h = grind (arith, nat_tests)
-
 pub in_turn-follows : (lines : List Line) → NoRepeat lines → (before : List HistoryEvent) (event : HistoryEvent) → is_in_turn lines (greatest_answered lines before) event ≡ true
     → FollowsAnswered lines before event
 in_turn-follows lines once before (Submit id txn) turn = by_place (place_in lines id) refl turn
   where
     by_place : (p : Option ℕ) → place_in lines id ≡ p → is_behind p (greatest_answered lines before) ≡ true → Each (AnsweredStandsBefore lines id) before
     by_place None is turn = no_line lines id is before
-    by_place (Some j) is turn = below_all lines once id j is before (le_from (greatest_answered lines before) j turn)
+    by_place (Some j) is turn = below_all lines once id j is before (leb-true (greatest_answered lines before) j turn)
 in_turn-follows lines once before (Read id values) turn = tt
 in_turn-follows lines once before (Answered id answer) turn = tt
 in_turn-follows lines once before (Told asker id answer) turn = tt
@@ -214,7 +208,7 @@ follows-in_turn lines once before (Submit id txn) follows = by_place (place_in l
   where
     by_place : (p : Option ℕ) → place_in lines id ≡ p → is_behind p (greatest_answered lines before) ≡ true
     by_place None is = refl
-    by_place (Some j) is = from_le (greatest_answered lines before) j (all_below lines once id j is before follows)
+    by_place (Some j) is = le-leb (greatest_answered lines before) j (all_below lines once id j is before follows)
 follows-in_turn lines once before (Read id values) follows = refl
 follows-in_turn lines once before (Answered id answer) follows = refl
 follows-in_turn lines once before (Told asker id answer) follows = refl

@@ -1,7 +1,7 @@
 -- A property of each item of a list.
 use Rattle.eris_base.specs.Each.{Each}
 use Rattle.std.proofs.Common.{Bool, List, [], cond, false, true, ◌++◌, ◌∷◌}
-use Rattle.std.specs.List.{filter}
+use Rattle.std.specs.List.{filter, AllByRecursion}
 
 module _ {X : Type 0} (P : X → Type 0) where
   pub Each-left : (xs ys : List X) → Each P (xs ++ ys) → Each P xs
@@ -21,6 +21,11 @@ module _ {X : Type 0} (P : X → Type 0) where
   Each-changed [] x y ys h p = (p, h.1)
   Each-changed (z ∷ xs) x y ys h p = (h.0, Each-changed xs x y ys h.1 p)
 
+  -- what holds of everything
+  pub Each-any : ((x : X) → P x) → (xs : List X) → Each P xs
+  Each-any holds [] = tt
+  Each-any holds (x ∷ xs) = (holds x, Each-any holds xs)
+
   pub Each-weaker : (Q : X → Type 0) → ((x : X) → P x → Q x) → (xs : List X) → Each P xs → Each Q xs
   Each-weaker Q f [] h = tt
   Each-weaker Q f (x ∷ xs) h = (f x h.0, Each-weaker Q f xs h.1)
@@ -36,3 +41,8 @@ module _ {X : Type 0} (P : X → Type 0) where
       by_test : (t : Bool) → Each P (filter test xs) → Each P (cond t (x ∷ filter test xs) (filter test xs))
       by_test true k = (h.0, k)
       by_test false k = k
+
+-- the same of lists that std's predicate speaks of
+pub All-append : {X : Type 0} (P : X → Type 0) (xs ys : List X) → AllByRecursion P xs → AllByRecursion P ys → AllByRecursion P (xs ++ ys)
+All-append P [] ys h k = k
+All-append P (x ∷ xs) ys h k = (h.0, All-append P xs ys h.1 k)

@@ -20,8 +20,8 @@ use Rattle.eris_txn.specs.declared.body.Body.{Body}
 use Rattle.eris_txn.specs.declared.body.Body.TheVariants.{Independent}
 use Rattle.eris_txn.specs.declared.op.Op.{Op}
 use Rattle.eris_txn.specs.declared.packet.Packet.{Packet}
-use Rattle.eris_txn.specs.Keys.{Values}
-use Rattle.eris_txn.specs.Operations.{after, answers, key_of}
+use Rattle.eris_txn.specs.Operations.{answers, key_of}
+use Rattle.eris_txn.proofs.ValueLaws.{length-answers}
 use Rattle.eris_locks.specs.LockTable.{Stepped, arrive, arrive_new, done, execute, only, run_state, step}
 use Rattle.eris_locks.specs.declared.done.Done.{Done}
 use Rattle.eris_locks.specs.declared.shard_packet.ShardPacket.{ShardPacket}
@@ -35,10 +35,6 @@ module _ (shard : ShardId) (Known : TxnId → List Op → Type 0) (one : (id : T
     holding : state.holding ≡ []
     waiting : state.waiting ≡ []
     recorded : (id : TxnId) (answer : Answer) (ops : List Op) → state.recorded id Phase.Whole ≡ Some answer → Known id ops → HasItems answer (ops_on shard ops)
-
-  many_answers : (ops : List Op) (values : Values) → length (answers ops values) ≡ length ops
-  many_answers [] values = refl
-  many_answers (op ∷ ops) values = ap (λ n. suc n) (many_answers ops (after op values))
 
   same_cut : (ops : List Op) → length (filter (λ op. is_on shard (key_of op)) ops) ≡ length (filter (λ key. key.shard.0 == shard.0) (map key_of ops))
   same_cut [] = refl
@@ -72,7 +68,7 @@ module _ (shard : ShardId) (Known : TxnId → List Op → Type 0) (one : (id : T
     packet = come id asker at ops
 
     new_items : HasItems (Answer.Ops (answers (cut_ops ops) state.values)) (ops_on shard ops)
-    new_items = record { items = answers (cut_ops ops) state.values; is = refl; many = many_answers (cut_ops ops) state.values ∙ many_cut ops }
+    new_items = record { items = answers (cut_ops ops) state.values; is = refl; many = length-answers (cut_ops ops) state.values ∙ many_cut ops }
 
     executes : Answers id ops (only (execute state packet) (done at packet (Answer.Ops (answers (cut_ops ops) state.values)) false))
     executes = record {

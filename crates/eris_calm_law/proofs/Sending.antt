@@ -8,6 +8,7 @@ use Rattle.std.specs.Prelude.{find, slice_index}
 use Rattle.eris_base.specs.declared.ids.ReplicaId.{ReplicaId}
 use Rattle.eris_base.specs.declared.ids.ShardId.{ShardId}
 use Rattle.eris_base.specs.Places.{number_in}
+use Rattle.eris_base.proofs.IdLaws.{shard_equal}
 use Rattle.eris_txn.specs.declared.packet.Packet.{Packet}
 use Rattle.eris_txn.specs.Bodies.{ascends_from, has_shard, participants_of}
 use Rattle.eris_txn.proofs.BodyLaws.{participants-ascend}
@@ -94,16 +95,13 @@ sent_some packet shard replica from (suc many) low high = elim (cases_lt from re
   | inr here ↦ inl (let same : replica ≡ from = omega arith in ap (λ (r : ℕ). carrying packet shard r) same)
 ]
 
-shard_same : (some other : ShardId) → some.0 ≡ other.0 → some ≡ other
-shard_same some other e = λ i. record { 0 = e i }
-
 sent_each : (f : ℕ) (packet : Packet) (shards : List ShardId) (shard : ShardId) (replica : ℕ) → has_shard shards shard ≡ true → replica < 2 * f + 1 → In (carrying packet shard replica) (flat_map (sends_to f packet) shards)
 unfolding sends_to
 sent_each f packet [] shard replica h low = absurd (cc)
 sent_each f packet (one ∷ shards) shard replica h low = elim (or_cases (one.0 == shard.0) (has_shard shards shard) h) [
   | inl here ↦
       In-left (carrying packet shard replica) (map (λ r. carrying packet one r) (range_with_len 0 (2 * f + 1))) (flat_map (sends_to f packet) shards)
-      (subst (λ (s : ShardId). In (carrying packet shard replica) (map (λ r. carrying packet s r) (range_with_len 0 (2 * f + 1)))) (shard_same shard one (sym (eqb-true one.0 shard.0 here)))
+      (subst (λ (s : ShardId). In (carrying packet shard replica) (map (λ r. carrying packet s r) (range_with_len 0 (2 * f + 1)))) (shard_equal shard one (sym (eqb-true one.0 shard.0 here)))
       (sent_some packet shard replica 0 (2 * f + 1) (omega arith) (omega arith)))
   | inr later ↦ In-right (carrying packet shard replica) (map (λ r. carrying packet one r) (range_with_len 0 (2 * f + 1))) (flat_map (sends_to f packet) shards) (sent_each f packet shards shard replica later low)
 ]

@@ -10,15 +10,13 @@ use Rattle.eris_base.specs.declared.ids.View.{View}
 use Rattle.eris_base.specs.declared.stamp.Stamp.{Stamp}
 use Rattle.eris_base.specs.Quorums.{same_replica}
 use Rattle.eris_txn.specs.declared.answer.Answer.{Answer}
-use Rattle.eris_txn.specs.declared.body.Body.TheVariants.{Independent}
-use Rattle.eris_txn.specs.declared.packet.Packet.{Packet}
-use Rattle.eris_epoch.specs.SamePackets.{same_packet, same_stamp}
-use Rattle.eris_epoch.proofs.SameLaws.{same_packet-refl, same_packet-true}
+use Rattle.eris_epoch.specs.SamePackets.{same_stamp}
+use Rattle.eris_epoch.proofs.SameLaws.{same_stamp-refl, same_stamp-true}
 use Rattle.eris_rules.specs.declared.transaction.Transaction.{Transaction}
 use Rattle.eris_rules.specs.declared.transaction.Vote.{Vote}
 use Rattle.eris_rules.specs.Votes.{agrees_with, answer_by_votes, first_answer, is_counted, votes_with, with_answer, with_counted, with_vote}
 use Rattle.eris_epoch_law.specs.Members.{In}
-use Rattle.eris_epoch_law.proofs.Members.{In-append, any_from}
+use Rattle.eris_epoch_law.proofs.Members.{In-append, any_from, filtered-In}
 use Rattle.eris_calm_law.specs.Crashes.{how_many_down, is_down}
 use Rattle.eris_calm_law.specs.Noted.{CountsAll, HasVote, vote_by}
 use Rattle.eris_calm_law.proofs.Majorities.{majority}
@@ -35,16 +33,6 @@ any_front test (y ∷ xs) x h = elim (or_cases (test y) (list_any test xs) h) [ 
 without_last : {X : Type 0} (test : X → Bool) (xs : List X) (x : X) → test x ≡ false → filter test (xs ++ x ∷ []) ≡ filter test xs
 without_last test [] x h = ap (λ b. cond b (x ∷ []) []) h
 without_last test (y ∷ xs) x h = ap (λ rest. cond (test y) (y ∷ rest) rest) (without_last test xs x h)
-
-passing : {X : Type 0} (test : X → Bool) (xs : List X) (x : X) → In x xs → test x ≡ true → In x (filter test xs)
-passing test [] x i h = absurd i
-passing test (y ∷ xs) x i h = by_test (test y) refl i (λ later. passing test xs x later h)
-  where
-    by_test : (b : Bool) → test y ≡ b → (x ≡ y) ⊎ In x xs → (In x xs → In x (filter test xs)) → In x (cond b (y ∷ filter test xs) (filter test xs))
-    by_test true e (inl same) rest = inl same
-    by_test true e (inr later) rest = inr (rest later)
-    by_test false e (inl same) rest = let clash : true ≡ false = sym h ∙ ap test same ∙ e in absurd (cc)
-    by_test false e (inr later) rest = rest later
 
 pub all_pass : {X : Type 0} (test : X → Bool) (xs : List X) → ((x : X) → In x xs → test x ≡ true) → list_all test xs ≡ true
 all_pass test [] h = refl
@@ -66,27 +54,6 @@ counted_still counted shard answer other there =
 counted_kept : (counted : List (ShardId × Answer)) (shard : ShardId) (found : Option Answer) (other : ShardId) → is_counted counted other ≡ true → is_counted (with_answer counted shard found) other ≡ true
 counted_kept counted shard None other there = there
 counted_kept counted shard (Some answer) other there = counted_still counted shard answer other there
-
--- ---- equal stamps
-abbrev packet_with : Stamp → Packet
-packet_with stamp = record { stamp = stamp; id = record { client = record { 0 = 0 }; number = 0 }; asker = record { 0 = 0 }; body = Independent [] }
-
-same_stamp-refl : (stamp : Stamp) → same_stamp stamp stamp ≡ true
-unfolding same_packet
-same_stamp-refl stamp = (and_parts _ _ (and_parts _ _ (and_parts _ _ (same_packet-refl (packet_with stamp))).0).0).0
-
-same_stamp-true : (some other : Stamp) → same_stamp some other ≡ true → some ≡ other
-unfolding same_packet
-same_stamp-true some other h = ap (λ (p : Packet). p.stamp) (same_packet-true (packet_with some) (packet_with other) same)
-  where
-    with_test : (a b c d e : Bool) → a ≡ true → (((e && b) && c) && d) ≡ true → (((a && b) && c) && d) ≡ true
-    with_test true true true true e p q = refl
-    with_test true b c d true p q = q
-    with_test true b c d false p q = cc
-    with_test false b c d e p q = cc
-
-    same : same_packet (packet_with some) (packet_with other) ≡ true
-    same = with_test (same_stamp some other) _ _ _ (same_stamp some some) h (same_packet-refl (packet_with some))
 
 -- ---- votes that agree
 agrees_itself : (vote : Vote) → agrees_with vote vote ≡ true
@@ -178,8 +145,8 @@ majority_counts f votes counted shard stamp down counts few up each =
     let among = λ (r : ℕ) (low : r < 2 * f + 1) (lives : is_down down shard.0 r ≡ false).
     let one = each r low lives in
     any_from (same_replica (record { 0 = r })) (map (λ (v : Vote). v.replica) (votes_with votes learners)) (record { 0 = r })
-    (mapped (votes_with votes learners) (vote_by shard (record { 0 = r }) stamp one.found) (passing (agrees_with learners) votes _ one.there (agree shard stamp r one.found first.found)))
+    (mapped (votes_with votes learners) (vote_by shard (record { 0 = r }) stamp one.found) (filtered-In (agrees_with learners) votes _ one.there (agree shard stamp r one.found first.found)))
     (eq-eqb r r refl) in
     let most = majority down shard.0 f (map (λ (v : Vote). v.replica) (votes_with votes learners)) few among in
-    let made = some_first (votes_with votes learners) learners (passing (agrees_with learners) votes learners first.there (agrees_itself learners)) (first.learner refl) in
+    let made = some_first (votes_with votes learners) learners (filtered-In (agrees_with learners) votes learners first.there (agrees_itself learners)) (first.learner refl) in
     counts.at learners made.0 first.there (cond-true _ _ _ (lt-ltb f _ most) ∙ made.1)

@@ -26,7 +26,7 @@ use Rattle.eris_rules.specs.Worlds.{WorldState, client_at, no_longer_waiting, wi
 use Rattle.eris_client_law.specs.Counts.{message_of}
 use Rattle.eris_epoch_law.specs.Members.{In}
 use Rattle.eris_epoch_law.proofs.Members.{In-left, In-right}
-use Rattle.eris_agreement.proofs.Cells.{get-set, get-set_same}
+use Rattle.eris_epoch_law.proofs.Frame.{get-set, get-set_same}
 use Rattle.eris_calm_law.specs.Calm.{Done, Heard, IsAnswered, IsCalmWorld, IsCell, IsJob, IsOpen, IsQueue, IsRight, Job, Open, Progress, Submitted, Way, voting}
 use Rattle.eris_calm_law.specs.Noted.{CountsAll, HasVote, vote_by}
 use Rattle.eris_calm_law.proofs.Moving.{Brings, Keeps, ReadsSame, all_fine, answered_still, job_kept, job_still, lives_still, one_transaction, way_next}

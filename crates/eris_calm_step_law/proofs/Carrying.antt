@@ -12,6 +12,7 @@ use Rattle.eris_base.specs.Each.{Each}
 use Rattle.eris_base.specs.Places.{number_in}
 use Rattle.eris_base.specs.Quorums.{learner_of, same_replica}
 use Rattle.eris_base.proofs.Each.{Each-append}
+use Rattle.eris_base.proofs.IdLaws.{shard_equal}
 use Rattle.eris_txn.specs.declared.answer.Answer.{Answer}
 use Rattle.eris_txn.specs.declared.body.Body.TheVariants.{Independent}
 use Rattle.eris_txn.specs.declared.op.Op.{Op}
@@ -31,7 +32,7 @@ use Rattle.eris_rules.specs.Votes.{role_fits, vote_fits}
 use Rattle.eris_rules.specs.Worlds.{WorldState, has_crashed, no_longer_waiting, replica_at, with_replica, with_sends}
 use Rattle.eris_epoch_law.specs.Members.{In}
 use Rattle.eris_epoch_law.proofs.Members.{In-left, In-right}
-use Rattle.eris_epoch_law.proofs.Frame.{replica_equal, shard_equal}
+use Rattle.eris_epoch_law.proofs.Frame.{replica_equal}
 use Rattle.eris_agreement.proofs.Cells.{cell, cell-same, everywhere}
 use Rattle.eris_calm_law.specs.Calm.{Down, Fine, IsCalmWorld, IsCarried, IsCell, IsJob, IsRight, Job, Lives, NumberedFrom, Said, Stage, Submitted, Votes, packet_of, voting}
 use Rattle.eris_calm_law.specs.Carried.{carrying, coming, is_to}

@@ -15,6 +15,7 @@ use Rattle.eris_base.specs.declared.ids.ShardId.{ShardId}
 use Rattle.eris_base.specs.declared.ids.TxnId.{TxnId}
 use Rattle.eris_base.specs.Each.{Each}
 use Rattle.eris_base.specs.Quorums.{are_quorum}
+use Rattle.eris_base.proofs.IdLaws.{shard_by_test}
 use Rattle.eris_txn.specs.declared.answer.Answer.{Answer}
 use Rattle.eris_txn.specs.declared.body.Body.{Body}
 use Rattle.eris_txn.specs.declared.body.Body.TheVariants.{Prelim}
@@ -37,9 +38,6 @@ use Rattle.eris_client.specs.Assembled.{assembled, count_of}
 use Rattle.eris_client.proofs.ItemByItem.{assembled_is}
 use Rattle.eris_client.proofs.ItemShards.{all_items, items_are, plan_shards}
 
-one_shard : (some other : ShardId) → (some.0 == other.0) ≡ true → some ≡ other
-one_shard some other h = ap (λ (n : ℕ). record { 0 = n }) (eqb-true some.0 other.0 h)
-
 each_and : {X : Type 0} (P : X → Type 0) (xs : List X) (x : X) → Each P xs → P x → Each P (xs ++ x ∷ [])
 each_and P [] x h k = (k, tt)
 each_and P (first ∷ xs) x h k = (h.0, each_and P xs x h.1 k)
@@ -61,7 +59,7 @@ first_answers body vote (one ∷ votes) h = by_test (agrees_with vote one) refl 
     by_test : (t : Bool) → agrees_with vote one ≡ t → Answers body vote.shard (first_answer (votes_with votes vote))
         → Answers body vote.shard (first_answer (cond t (one ∷ votes_with votes vote) (votes_with votes vote)))
     by_test true same rest =
-        let here : one.shard ≡ vote.shard = one_shard one.shard vote.shard (and_parts _ _ same).0 in
+        let here : one.shard ≡ vote.shard = shard_by_test one.shard vote.shard (and_parts _ _ same).0 in
         either_answers body vote.shard one.answer (first_answer (votes_with votes vote)) (subst (λ (shard : ShardId). Answers body shard one.answer) here h.0) rest
     by_test false apart rest = rest
 
@@ -177,7 +175,7 @@ module _ (locks : List Lock) where
           → (is_counted counted shard ≡ true → length (values_in (answer_of_shard counted shard)) ≡ items_on (Prelim locks) shard)
           → length (values_in (option_map (λ (pair : ShardId × Answer). pair.1) (cond t (Some pair) (find (λ pair. pair.0.0 == shard.0) counted)))) ≡ items_on (Prelim locks) shard
       by_test true same _ rest =
-          let here : pair.0 ≡ shard = one_shard pair.0 shard same in
+          let here : pair.0 ≡ shard = shard_by_test pair.0 shard same in
           values_of pair.0 pair.1 h.0 (not_first (is_aborted pair.1) (list_any is_aborted (map (λ pair. pair.1) counted)) kept)
           ∙ ap (λ (one : ShardId). items_on (Prelim locks) one) here
       by_test false apart later rest = rest later

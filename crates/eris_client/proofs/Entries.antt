@@ -6,24 +6,18 @@ use Rattle.std.specs.Cmp.{IsTotalOrder}
 use Rattle.std.specs.List.{AllByRecursion}
 use Rattle.std.specs.List.Sorted.{IsStrictlySortedBy}
 use Rattle.std.specs.Map.{keys_of, lookup, remove_entry}
-use Rattle.std.specs.Ordering.{nat_cmp, is_eq, match_ordering}
+use Rattle.std.specs.Ordering.{is_eq, match_ordering}
 use Rattle.std.specs.declared.cmp.Ordering.{Ordering}
 use Rattle.std.specs.declared.cmp.Ordering.TheVariants.{Less, Equal, Greater}
 use Rattle.std.proofs.lemmas.Cmp.{nat_cmp_total, on_total, then_total, tied_itself}
-use Rattle.std.proofs.lemmas.Map.Lookups.{exact_unsigned, exact_pairs}
 use Rattle.eris_base.specs.declared.ids.TxnId.{TxnId}
 use Rattle.eris_rules.specs.declared.transaction.Transaction.{Transaction}
 use Rattle.eris_rules.specs.ClientStates.{ClientIdentity, ClientState, txn_id_cmp, with_transaction}
+use Rattle.eris_rules.proofs.ClientIds.{one_id}
 use Rattle.eris_client.specs.ClientValues.{StateValue}
 
 ids_total : IsTotalOrder txn_id_cmp
 ids_total = then_total (on_total (λ (id : TxnId). id.client.0) nat_cmp_total) (on_total (λ (id : TxnId). id.number) nat_cmp_total)
-
--- ids that the order ties are one
-pub one_id : (some other : TxnId) → txn_id_cmp some other ≡ Equal → some ≡ other
-one_id some other tied =
-    ap (λ (parts : ℕ × ℕ). record { client = record { 0 = parts.0 }; number = parts.1 })
-    (exact_pairs nat_cmp nat_cmp exact_unsigned exact_unsigned (some.client.0, some.number) (other.client.0, other.number) tied)
 
 itself : (id : TxnId) → txn_id_cmp id id ≡ Equal
 itself id = tied_itself ids_total id

@@ -16,6 +16,7 @@ use Rattle.eris_base.specs.declared.ids.ShardId.{ShardId}
 use Rattle.eris_base.specs.declared.ids.TxnId.{TxnId}
 use Rattle.eris_base.specs.ConfigLimits.{ConfigValue, IsConfig}
 use Rattle.eris_base.specs.Each.{Each}
+use Rattle.eris_base.proofs.Orders.{equal_from}
 use Rattle.eris_txn.specs.declared.answer.Answer.{Answer}
 use Rattle.eris_txn.specs.declared.body.Body.{Body}
 use Rattle.eris_txn.specs.declared.body.Body.TheVariants.{Prelim, Commit, Abort}
@@ -48,10 +49,10 @@ use Rattle.eris_rules.specs.Happenings.{plan_of_transaction}
 use Rattle.eris_rules.specs.Known.{knows_client}
 use Rattle.eris_rules.specs.InPlace.{is_in_place_at_client}
 use Rattle.eris_rules.specs.Votes.{is_complete, late_fits, vote_fits, waits_for, with_late, with_vote}
+use Rattle.eris_rules.proofs.ClientIds.{one_id}
 use Rattle.eris_in_place.specs.MessageRanges.{SendsFit}
 use Rattle.eris_client.specs.ClientRanges.{CourseFits, EntryFits, HowFits, PlanFits, SettingFits, StateFits, StepFits, TxnFits}
 use Rattle.eris_client.specs.ClientValues.{StateValue, after}
-use Rattle.eris_client.proofs.Entries.{one_id}
 
 -- ---- lists of items
 module _ {X : Type 0} (c : Codec X) where
@@ -73,7 +74,7 @@ count_fits least n low high =
     (and_from (nat_le least n) (nat_le n 32) (le-leb least n low) (le-leb n 32 high))
 
 -- ---- what a plan locks and writes
-value_small : (n : ℕ) → n < 2 ^ 64 → f.value.fits n ≡ true
+pub value_small : (n : ℕ) → n < 2 ^ 64 → f.value.fits n ≡ true
 unfolding f.value
 value_small n small = lt-ltb n (2 ^ 64) small
 
@@ -144,11 +145,6 @@ put_fits (entry ∷ entries) id transaction h i k = by_order (txn_id_cmp id entr
     by_order Less rest = (record { id = i; course = k }, h)
     by_order Equal rest = (record { id = h.0.id; course = k }, h.1)
     by_order Greater rest = (h.0, rest)
-
-equal_from : (order : Ordering) → is_eq order ≡ true → order ≡ Equal
-equal_from Less h = absurd (cc)
-equal_from Equal h = refl
-equal_from Greater h = absurd (cc)
 
 pub found_fits : (entries : List (TxnId × Transaction)) (id : TxnId) (transaction : Transaction) → Each EntryFits entries → lookup (is_at (txn_id_cmp id)) entries ≡ Some transaction → EntryFits (id, transaction)
 found_fits [] id transaction h is = absurd (cc)

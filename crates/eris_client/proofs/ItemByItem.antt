@@ -1,15 +1,15 @@
 -- An answer over many shards, item by item, is the one in which each shard in turn gives the next of its own. Used
 -- where answers are assembled.
-use Rattle.std.proofs.Common.{◌≡◌, ℕ, suc, zero, ◌+◌, ◌<◌, ◌≤◌, Bool, true, false, cond, ◌||◌, ◌==◌, Option, Some, None, List, [], ◌∷◌, ◌++◌, length, map, take, drop, get_or, slice_get, refl, ap, sym, ◌∙◌, arith, add-one, add-zero}
+use Rattle.std.proofs.Common.{◌≡◌, ℕ, suc, zero, ◌+◌, ◌<◌, ◌≤◌, Bool, true, false, cond, ◌||◌, ◌==◌, Option, Some, None, List, [], ◌∷◌, ◌++◌, length, map, take, drop, get_or, slice_get, refl, ap, sym, ◌∙◌, add-one, add-zero}
 use Rattle.std.specs.List.{cons_option, list_any}
-use Rattle.std.proofs.lemmas.Bool.{eqb-true}
-use Rattle.std.proofs.lemmas.Bool.Decides.{nat_tests}
 use Rattle.std.proofs.lemmas.List.Sums.{sum_by_push}
 use Rattle.std.proofs.lemmas.List.{append-nil, append_assoc}
 use Rattle.std.proofs.Math.ListN.{drop_of_length-le}
 use Rattle.std.specs.Option.{option_to_list}
 use Rattle.std.proofs.Math.Seq.{drop-cons, take-suc}
 use Rattle.eris_base.specs.declared.ids.ShardId.{ShardId}
+use Rattle.eris_base.proofs.Booleans.{number_turned}
+use Rattle.eris_base.proofs.IdLaws.{shard_by_test}
 use Rattle.eris_txn.specs.declared.answer.Answer.{Answer}
 use Rattle.eris_rules.specs.Assembling.{assemble, with_rest}
 use Rattle.eris_client.specs.Assembled.{assembled, count_of}
@@ -37,12 +37,6 @@ drop_more (item ∷ items) (suc n) = drop_more items n
 count_more : (before : List ShardId) (shard other : ShardId) → count_of (before ++ shard ∷ []) other ≡ count_of before other + cond (shard.0 == other.0) 1 0
 count_more before shard other = sum_by_push (λ (one : ShardId). cond (one.0 == other.0) 1 0) before shard
 
-turned : (m n : ℕ) → (m == n) ≡ (n == m)
-turned m n = grind (arith, nat_tests)
-
-one_shard : (some other : ShardId) → (some.0 == other.0) ≡ true → some ≡ other
-one_shard some other h = ap (λ (n : ℕ). record { 0 = n }) (eqb-true some.0 other.0 h)
-
 module _ {A : Type 0} (lists : ShardId → List A) where
   -- what each shard has left after these
   abbrev left : List ShardId → ShardId → List A
@@ -62,17 +56,17 @@ module _ {A : Type 0} (lists : ShardId → List A) where
     where
       by_test : (t : Bool) → (shard.0 == other.0) ≡ t → left before other ≡ cond t (rest_of (left before other)) (left before other)
       by_test true same =
-          let here : left before other ≡ [] = ap (left before) (sym (one_shard shard other same)) ∙ is in
+          let here : left before other ≡ [] = ap (left before) (sym (shard_by_test shard other same)) ∙ is in
           here ∙ sym (ap rest_of here)
       by_test false apart = refl
 
   -- where it gives an item, it has the rest left
   rest_more : (before : List ShardId) (shard other : ShardId) (item : A) (rest : List A) → left before shard ≡ item ∷ rest → with_rest shard rest (left before) other ≡ left (before ++ shard ∷ []) other
   rest_more before shard other item rest is =
-      ap (λ (t : Bool). cond t rest (left before other)) (turned other.0 shard.0) ∙ by_test (shard.0 == other.0) refl ∙ sym (left_more before shard other)
+      ap (λ (t : Bool). cond t rest (left before other)) (number_turned other.0 shard.0) ∙ by_test (shard.0 == other.0) refl ∙ sym (left_more before shard other)
     where
       by_test : (t : Bool) → (shard.0 == other.0) ≡ t → cond t rest (left before other) ≡ cond t (rest_of (left before other)) (left before other)
-      by_test true same = sym (ap rest_of (ap (left before) (sym (one_shard shard other same)) ∙ is))
+      by_test true same = sym (ap rest_of (ap (left before) (sym (shard_by_test shard other same)) ∙ is))
       by_test false apart = refl
 
   each_in_turn : (shards before : List ShardId) → assemble shards (left before) ≡ assembled before shards lists

@@ -1,9 +1,8 @@
 -- The shards of a body's items, which a client holds for a message: those that take part are exactly they. Used
 -- where a vote, an answer or a whole half is looked at.
-use Rattle.std.proofs.Common.{◌≡◌, ℕ, ◌+◌, Bool, true, cond, ◌&&◌, ◌||◌, ◌==◌, is_some, List, [], ◌∷◌, map, sum_by, IsTrue, refl, ap, sym, ◌∙◌, inl, inr}
+use Rattle.std.proofs.Common.{◌≡◌, ℕ, ◌+◌, Bool, true, cond, ◌&&◌, ◌==◌, is_some, List, [], ◌∷◌, map, sum_by, IsTrue, refl, ap, sym, ◌∙◌}
 use Rattle.std.specs.Cmp.{both_ways as either_way}
 use Rattle.std.specs.List.{list_all}
-use Rattle.std.proofs.lemmas.Bool.{and_parts, and_from, both_ways, eq-eqb, eqb-true, or_cases, or_right}
 use Rattle.std.proofs.lemmas.List.Folds.{list_all-map}
 use Rattle.std.proofs.lemmas.List.Sums.{sum_by-cons}
 use Rattle.eris_base.specs.declared.ids.ShardId.{ShardId}
@@ -13,30 +12,24 @@ use Rattle.eris_txn.specs.declared.answer.Answer.{Answer}
 use Rattle.eris_txn.specs.declared.body.Body.{Body}
 use Rattle.eris_txn.specs.declared.body.Body.TheVariants.{Independent, Prelim, Commit, Abort}
 use Rattle.eris_txn.specs.declared.key.Key.{Key}
-use Rattle.eris_txn.specs.declared.lock.Lock.{Lock}
-use Rattle.eris_txn.specs.declared.plan.Setting.{Setting}
 use Rattle.eris_txn.specs.Bodies.{any_on, has_shard, keys_of, participants_of}
 use Rattle.eris_txn.specs.PlanValues.{PlanValue}
-use Rattle.eris_txn.specs.Plans.{locks_in, locks_of}
+use Rattle.eris_txn.specs.Plans.{locks_of}
 use Rattle.eris_txn.proofs.BodyLaws.{has_shard-participants}
+use Rattle.eris_txn.proofs.PlanLaws.{locked_keys}
 use Rattle.eris_locks.specs.States.{phase_of}
 use Rattle.eris_rules.specs.Clients.{item_shards}
 use Rattle.eris_rules.specs.InPlace.{names_exactly}
 use Rattle.eris_rules.specs.Votes.{answer_fits, items_on}
-use Rattle.eris_in_place.proofs.ExactShards.{exactly, list_any-map}
+use Rattle.eris_in_place.proofs.ExactShards.{exactly, list_any-map, each_passes, all_pass}
 use Rattle.eris_client.specs.Assembled.{count_of}
 use Rattle.eris_client.specs.Halves.{fits_half}
 
 abbrev shard_of : Key → ShardId
 shard_of key = key.shard
 
--- the keys of a plan's locks are its keys
-keys-locks : (settings : List Setting) (keys : List Key) → map (λ (lock : Lock). lock.key) (locks_in settings keys) ≡ keys
-keys-locks settings [] = refl
-keys-locks settings (key ∷ keys) = ap (λ (rest : List Key). key ∷ rest) (keys-locks settings keys)
-
 pub plan_shards : (plan : PlanValue) → item_shards (Prelim (locks_of plan)) ≡ map shard_of plan.keys
-plan_shards plan = ap (map shard_of) (keys-locks plan.settings plan.keys)
+plan_shards plan = ap (map shard_of) (locked_keys plan.settings plan.keys)
 
 pub ruleset shards_of_plan = (plan_shards)
 
@@ -91,25 +84,6 @@ pub fits_by_items : (body : Body) (shard : ShardId) (answer : Answer) → answer
 fits_by_items body shard answer = half_fits body shard answer ∙ ap (λ n. fits_half (phase_of body) n answer) (items_are body shard)
 
 -- ---- a test of each shard, by which shards there are
-one_shard : (some other : ShardId) → (some.0 == other.0) ≡ true → some ≡ other
-one_shard some other h = ap (λ (n : ℕ). record { 0 = n }) (eqb-true some.0 other.0 h)
-
-each_passes : (test : ShardId → Bool) (shards : List ShardId) → list_all test shards ≡ true → (one : ShardId) → has_shard shards one ≡ true → test one ≡ true
-each_passes test [] h one is = absurd (both_ways _ refl is)
-each_passes test (shard ∷ shards) h one is =
-    let parts = and_parts (test shard) (list_all test shards) h in
-    elim (or_cases (shard.0 == one.0) (has_shard shards one) is) [
-      | inl same ↦ ap test (sym (one_shard shard one same)) ∙ parts.0
-      | inr later ↦ each_passes test shards parts.1 one later
-    ]
-
-all_pass : (test : ShardId → Bool) (shards : List ShardId) → ((one : ShardId) → has_shard shards one ≡ true → test one ≡ true) → list_all test shards ≡ true
-all_pass test [] h = refl
-all_pass test (shard ∷ shards) h =
-    and_from (test shard) (list_all test shards)
-    (h shard (ap (λ b. b || has_shard shards shard) (eq-eqb shard.0 shard.0 refl)))
-    (all_pass test shards (λ one is. h one (or_right (shard.0 == one.0) (has_shard shards one) is)))
-
 same_shards_pass : (test : ShardId → Bool) (shards others : List ShardId) → ((one : ShardId) → has_shard others one ≡ has_shard shards one) → list_all test shards ≡ true → list_all test others ≡ true
 same_shards_pass test shards others same h = all_pass test others (λ one is. each_passes test shards h one (sym (same one) ∙ is))
 

@@ -1,8 +1,7 @@
 -- Keys, operations and plans that a client may be given have their fields in the messages' ranges. Used where the
 -- shards of a transaction are looked at.
-use Rattle.std.proofs.Common.{◌≡◌, ◌<◌, ◌≤◌, ◌^◌, ℕ, true, ◌&&◌, nat_lt, nat_le, List, [], ◌∷◌, ◌++◌, length, refl, ap, sym, ◌∙◌, arith, inl, inr}
+use Rattle.std.proofs.Common.{◌≡◌, ◌<◌, ◌≤◌, ◌^◌, ℕ, true, ◌&&◌, nat_lt, nat_le, List, [], ◌∷◌, length, refl, ap, sym, ◌∙◌, arith, inl, inr}
 use Rattle.std.specs.List.{list_all}
-use Rattle.std.proofs.lemmas.Bool.Decides.{nat_tests}
 use Rattle.std.proofs.lemmas.Bool.{and_from, and_parts, both_ways, leb-true, le-leb, lt-ltb, ltb-true, or_cases}
 use Rattle.eris_base.specs.declared.ids.ShardId.{ShardId}
 use Rattle.eris_base.specs.Each.{Each}
@@ -12,44 +11,21 @@ use Rattle.eris_txn.specs.declared.op.Op.{Op}
 use Rattle.eris_txn.specs.declared.op.Op.TheVariants.{Get, Put, Del, Add, Cas}
 use Rattle.eris_txn.specs.declared.plan.Setting.{Setting}
 use Rattle.eris_txn.specs.Keys.{same_key}
-use Rattle.eris_txn.specs.Names.{is_name, is_name_byte}
+use Rattle.eris_txn.specs.Names.{is_name}
 use Rattle.eris_txn.specs.PlanFacts.{IsPlan}
 use Rattle.eris_txn.specs.PlanFaults.{is_among}
 use Rattle.eris_txn.specs.PlanValues.{PlanValue}
 use Rattle.eris_txn.specs.Sizes.{is_few}
 use Rattle.eris_txn.proofs.KeyLaws.{same_key-true}
 use Rattle.eris_txn.proofs.PlanSizes.{length-settings}
-use Rattle.eris_msg.specs.declared.fault.DecodeReason.TheVariants.{Range}
-use Rattle.eris_msg.specs.Codecs.{checked, items_fit}
+use Rattle.eris_msg.specs.Codecs.{items_fit}
 use Rattle.eris_msg.specs.Fields as f
 use Rattle.eris_msg.specs.Spellings.{body_fits}
+use Rattle.eris_msg.proofs.NameBytes.{name_fits}
 use Rattle.eris_client.specs.ClientRanges.{HowFits, PlanFits, SettingFits}
-use Rattle.eris_client.proofs.Fits.{all_items_fit, count_fits}
+use Rattle.eris_client.proofs.Fits.{all_items_fit, count_fits, value_small}
 
 -- ---- keys
-small_byte : (byte : ℕ) → is_name_byte byte ≡ true → byte < 256
-small_byte byte h = grind (arith, nat_tests)
-
-name_items_fit : (before bytes : List ℕ) → list_all is_name_byte bytes ≡ true → items_fit (λ _. checked is_name_byte Range f.byte) before bytes ≡ true
-unfolding f.byte
-name_items_fit before [] h = refl
-name_items_fit before (byte ∷ bytes) h =
-    let parts = and_parts (is_name_byte byte) (list_all is_name_byte bytes) h in
-    and_from (nat_lt byte 256 && is_name_byte byte) (items_fit (λ _. checked is_name_byte Range f.byte) (before ++ byte ∷ []) bytes)
-    (and_from (nat_lt byte 256) (is_name_byte byte) (lt-ltb byte 256 (small_byte byte parts.0)) parts.0)
-    (name_items_fit (before ++ byte ∷ []) bytes parts.1)
-
-name_fits : (name : List ℕ) → is_name name ≡ true → f.name.fits name ≡ true
-unfolding f.name f.from_to f.byte
-name_fits name h =
-    let sizes = and_parts (nat_lt 0 (length name)) (nat_le (length name) 16) (and_parts (nat_lt 0 (length name) && nat_le (length name) 16) (list_all is_name_byte name) h).0 in
-    let some : 0 < length name = ltb-true 0 (length name) sizes.0 in
-    let few : length name ≤ 16 = leb-true (length name) 16 sizes.1 in
-    and_from (nat_lt (length name) 256 && (nat_le 1 (length name) && nat_le (length name) 16)) (items_fit (λ _. checked is_name_byte Range f.byte) [] name)
-    (and_from (nat_lt (length name) 256) (nat_le 1 (length name) && nat_le (length name) 16) (lt-ltb (length name) 256 (omega arith))
-    (and_from (nat_le 1 (length name)) (nat_le (length name) 16) (le-leb 1 (length name) (omega arith)) sizes.1))
-    (name_items_fit [] name (and_parts (nat_lt 0 (length name) && nat_le (length name) 16) (list_all is_name_byte name) h).1)
-
 shard_fits : (shard : ShardId) → shard.0 < 64 → f.shard.fits shard ≡ true
 unfolding f.shard f.from_to f.byte
 shard_fits shard small =
@@ -63,17 +39,13 @@ key_fits key shards known few name =
     and_from (f.shard.fits key.shard) (f.name.fits key.name) (shard_fits key.shard (omega arith)) (name_fits key.name name)
 
 -- ---- operations
-value_fits : (n : ℕ) → n < 2 ^ 64 → f.value.fits n ≡ true
-unfolding f.value
-value_fits n small = lt-ltb n (2 ^ 64) small
-
 pub get_fits : (key : Key) → f.key.fits key ≡ true → f.op.fits (Get key) ≡ true
 unfolding f.op f.op_fits
 get_fits key h = h
 
 pub put_fits : (key : Key) (value : ℕ) → value < 2 ^ 64 → f.key.fits key ≡ true → f.op.fits (Put key value) ≡ true
 unfolding f.op f.op_fits
-put_fits key value small h = and_from (f.key.fits key) (f.value.fits value) h (value_fits value small)
+put_fits key value small h = and_from (f.key.fits key) (f.value.fits value) h (value_small value small)
 
 pub del_fits : (key : Key) → f.key.fits key ≡ true → f.op.fits (Del key) ≡ true
 unfolding f.op f.op_fits
@@ -81,13 +53,13 @@ del_fits key h = h
 
 pub add_fits : (key : Key) (more : ℕ) → more < 2 ^ 64 → f.key.fits key ≡ true → f.op.fits (Add key more) ≡ true
 unfolding f.op f.op_fits
-add_fits key more small h = and_from (f.key.fits key) (f.value.fits more) h (value_fits more small)
+add_fits key more small h = and_from (f.key.fits key) (f.value.fits more) h (value_small more small)
 
 pub cas_fits : (key : Key) (expected value : ℕ) → expected < 2 ^ 64 → value < 2 ^ 64 → f.key.fits key ≡ true → f.op.fits (Cas key expected value) ≡ true
 unfolding f.op f.op_fits
 cas_fits key expected value small few h =
     and_from (f.key.fits key) (f.value.fits expected && f.value.fits value) h
-    (and_from (f.value.fits expected) (f.value.fits value) (value_fits expected small) (value_fits value few))
+    (and_from (f.value.fits expected) (f.value.fits value) (value_small expected small) (value_small value few))
 
 pub ruleset op_fits = (get_fits, put_fits, del_fits, add_fits, cas_fits)
 

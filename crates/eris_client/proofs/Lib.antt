@@ -5,5 +5,4 @@ pub mod Fits
 pub mod ItemShards
 pub mod ClientKinds
 pub mod KnownKeys
-pub mod SameStamps
 pub mod Taken

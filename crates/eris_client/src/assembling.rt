@@ -8,6 +8,7 @@ ghost use Rattle.eris_rules.specs.Clients.{answer_of_shard, op_answers_in, value
 
 use crate::shards::count_of;
 use eris_base::{Dup, NoMemory, Row, ShardId};
+use eris_general::is_aborted;
 use eris_txn::{Answer, OpAnswer};
 use std::alloc::Global;
 
@@ -102,12 +103,6 @@ fn any_aborted(counted: &[(ShardId, Answer)]) -> bool
     ensures { result ≡ list_any (λ pair. is_aborted pair.1) counted.now }
 {
     counted.iter().any(|pair| is_aborted(&pair.1))
-}
-
-fn is_aborted(answer: &Answer) -> bool
-    ensures { result ≡ is_aborted answer.now }
-{
-    matches!(answer, Answer::Aborted)
 }
 
 /// The outcome by the counted shards: aborted exactly where one of them aborted.

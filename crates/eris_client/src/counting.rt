@@ -121,7 +121,7 @@ fn agrees_with(vote: &Vote, other: &Vote) -> bool
     other.shard == vote.shard && other.view == vote.view && is_same_stamp(&other.stamp, &vote.stamp)
 }
 
-#[tactic(auto, using(crate::proofs::SameStamps::same_stamps))]
+#[tactic(auto, using(eris_epoch::proofs::SameLaws::same_stamps))]
 fn is_same_stamp(some: &Stamp, other: &Stamp) -> bool
     ensures { result ≡ same_stamp some.now other.now }
 {

@@ -3,11 +3,12 @@ ghost use Rattle.std.specs.Prelude.{◌≡◌, [], ◌++◌, map, IfOk};
 ghost use Rattle.std.specs.Option.{option_copied};
 ghost use Rattle.eris_txn.specs.Bodies.{keys_of};
 ghost use Rattle.eris_txn.specs.Operations.{key_of};
-ghost use Rattle.eris_locks.specs.States.{phase_of, same_phase};
+ghost use Rattle.eris_locks.specs.States.{phase_of};
 ghost use Rattle.eris_rules.specs.ClientStates.{begun_half, body_of, course_of, plan_of};
 ghost use Rattle.eris_rules.specs.Clients.{item_shards};
 
 use eris_base::{Dup, NoMemory, Phase, Row, ShardId};
+use eris_locks::phase_of;
 use eris_rules::{Course, Transaction};
 use eris_txn::{Body, Key, Lock, Op, Plan, Txn};
 use std::alloc::Global;
@@ -58,36 +59,14 @@ pub fn body_of(alloc: Global, course: &Course) -> Result<Body, NoMemory>
 }
 
 /// The phase of the present half.
-pub fn phase_of(course: &Course) -> Phase
+pub fn course_phase(course: &Course) -> Phase
     ensures { result ≡ phase_of (body_of course.now) }
 {
     match course {
         Course::Executing(_) => Phase::Whole,
         Course::Reading(_) => Phase::Prelim,
-        Course::Concluding(_, body) => body_phase(body),
+        Course::Concluding(_, body) => phase_of(body),
         Course::Aborting(_) => Phase::Conclude,
-    }
-}
-
-fn body_phase(body: &Body) -> Phase
-    ensures { result ≡ phase_of body.now }
-{
-    match body {
-        Body::Independent(_) => Phase::Whole,
-        Body::Prelim(_) => Phase::Prelim,
-        Body::Commit(_, _) => Phase::Conclude,
-        Body::Abort(_) => Phase::Conclude,
-    }
-}
-
-pub fn is_same_phase(some: Phase, other: Phase) -> bool
-    ensures { result ≡ same_phase some other }
-{
-    match (some, other) {
-        (Phase::Whole, Phase::Whole) => true,
-        (Phase::Prelim, Phase::Prelim) => true,
-        (Phase::Conclude, Phase::Conclude) => true,
-        _ => false,
     }
 }
 

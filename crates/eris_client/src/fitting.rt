@@ -7,9 +7,10 @@ ghost use Rattle.eris_rules.specs.Votes.{answer_fits, late_fits, role_fits, vote
 ghost use Rattle.eris_txn.specs.Bodies.{has_shard, participants_of};
 ghost use Rattle.eris_client.specs.Halves.{fits_half};
 
-use crate::courses::{is_same_phase, phase_of};
+use crate::courses::course_phase;
 use crate::shards::{count_of, has_shard, names_shards};
 use eris_base::{Phase, ShardId, Stamp, learner};
+use eris_locks::is_same_phase;
 use eris_rules::{Course, Transaction, Vote};
 use eris_txn::Answer;
 
@@ -18,7 +19,7 @@ use eris_txn::Answer;
 pub fn waits_for(transaction: &Transaction, phase: Phase) -> bool
     ensures { result ≡ waits_for transaction.now phase }
 {
-    !transaction.finished && is_same_phase(phase, phase_of(&transaction.course))
+    !transaction.finished && is_same_phase(phase, course_phase(&transaction.course))
 }
 
 /// Whether the body's packet can have got the vote: it is from a participant, by a stamp that names exactly
@@ -69,7 +70,7 @@ fn answer_fits(course: &Course, shards: &[ShardId], shard: ShardId, answer: &Ans
     requires { shards.now ≡ item_shards (body_of course.now) }
     ensures { result ≡ answer_fits (body_of course.now) shard answer.now }
 {
-    fits_half(phase_of(course), count_of(shards, shard), answer)
+    fits_half(course_phase(course), count_of(shards, shard), answer)
 }
 
 fn fits_half(phase: Phase, count: usize, answer: &Answer) -> bool

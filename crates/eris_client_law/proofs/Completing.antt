@@ -9,6 +9,7 @@ use Rattle.std.proofs.lemmas.List.Sums.{length-filter}
 use Rattle.eris_base.specs.declared.ids.ShardId.{ShardId}
 use Rattle.eris_base.specs.declared.ids.TxnId.{TxnId}
 use Rattle.eris_base.specs.Each.{Each}
+use Rattle.eris_base.proofs.IdLaws.{shard_by_test}
 use Rattle.eris_txn.specs.declared.answer.Answer.{Answer}
 use Rattle.eris_txn.specs.declared.body.Body.{Body}
 use Rattle.eris_txn.specs.declared.body.Body.TheVariants.{Independent, Prelim, Commit, Abort}
@@ -42,9 +43,6 @@ assemble_takes_in_turn A = record { none = λ given. refl; next = λ shard shard
 unsome : {X : Type 0} (x y : X) → Some x ≡ Some y → x ≡ y
 unsome x y h = cc
 
-same_shard : (some other : ShardId) → (some.0 == other.0) ≡ true → some ≡ other
-same_shard some other h = λ i. record { 0 = eqb-true some.0 other.0 h i }
-
 -- ---- the answer of a counted shard
 module _ (P : ShardId → Answer → Type 0) where
   of_shard : (counted : List (ShardId × Answer)) (shard : ShardId) (answer : Answer) → Each (λ pair. P pair.0 pair.1) counted → answer_of_shard counted shard ≡ Some answer → P shard answer
@@ -54,7 +52,7 @@ module _ (P : ShardId → Answer → Type 0) where
       by_test : (test : Bool) → (pair.0.0 == shard.0) ≡ test
           → option_map (λ (p : ShardId × Answer). p.1) (cond test (Some pair) (find (λ (p : ShardId × Answer). p.0.0 == shard.0) counted)) ≡ Some answer
           → (answer_of_shard counted shard ≡ Some answer → P shard answer) → P shard answer
-      by_test true same is rest = subst (λ (s : ShardId). P s answer) (same_shard pair.0 shard same) (subst (λ (a : Answer). P pair.0 a) (unsome pair.1 answer is) each.0)
+      by_test true same is rest = subst (λ (s : ShardId). P s answer) (shard_by_test pair.0 shard same) (subst (λ (a : Answer). P pair.0 a) (unsome pair.1 answer is) each.0)
       by_test false apart is rest = rest is
 
   -- a shard that is counted with `Aborted`
@@ -92,7 +90,7 @@ of_all test (other ∷ shards) shard all there =
     by_test (other.0 == shard.0) refl there parts.0 (of_all test shards shard parts.1)
   where
     by_test : (t : Bool) → (other.0 == shard.0) ≡ t → (t || has_shard shards shard) ≡ true → test other ≡ true → (has_shard shards shard ≡ true → test shard ≡ true) → test shard ≡ true
-    by_test true same k own rest = subst (λ (s : ShardId). test s ≡ true) (same_shard other shard same) own
+    by_test true same k own rest = subst (λ (s : ShardId). test s ≡ true) (shard_by_test other shard same) own
     by_test false apart k own rest = rest k
 
 -- ---- how many items a shard has

@@ -7,16 +7,14 @@ use Rattle.std.proofs.lemmas.Bool.{cond_both, and_parts, eqb-true}
 use Rattle.eris_base.specs.declared.ids.ShardId.{ShardId}
 use Rattle.eris_base.specs.declared.ids.TxnId.{TxnId}
 use Rattle.eris_base.specs.declared.ids.View.{View}
-use Rattle.eris_base.specs.declared.stamp.Stamp.{Stamp}
 use Rattle.eris_base.specs.Each.{Each}
 use Rattle.eris_base.specs.Quorums.{are_quorum, learner_of, same_replica}
 use Rattle.eris_base.proofs.Each.{Each-append, Each-filter, Each-weaker}
 use Rattle.eris_txn.specs.declared.answer.Answer.{Answer}
 use Rattle.eris_txn.specs.declared.body.Body.{Body}
-use Rattle.eris_txn.specs.declared.packet.Packet.{Packet}
 use Rattle.eris_txn.specs.Bodies.{has_shard, participants_of}
-use Rattle.eris_epoch.specs.SamePackets.{same_packet, same_stamp}
-use Rattle.eris_epoch.proofs.SameLaws.{same_packet-refl, same_packet-true}
+use Rattle.eris_epoch.specs.SamePackets.{same_stamp}
+use Rattle.eris_epoch.proofs.SameLaws.{same_stamp-true}
 use Rattle.eris_msg.specs.declared.message.Message.{Message}
 use Rattle.eris_rules.specs.declared.transaction.Transaction.{Transaction}
 use Rattle.eris_rules.specs.declared.transaction.Vote.{Vote}
@@ -69,25 +67,6 @@ module _ (me : ClientIdentity) (inputs : List ClientInput) (number : ℕ) (id : 
 
 -- ---- votes that agree
 module _ (me : ClientIdentity) (inputs : List ClientInput) (number : ℕ) (id : TxnId) (body : Body) where
-  abbrev packet_with : Stamp → Packet
-  packet_with stamp = record { stamp = stamp; id = id; asker = me.client; body = body }
-
-  same_stamps : (some other : Stamp) → same_stamp some other ≡ true → some ≡ other
-  unfolding same_packet
-  same_stamps some other h = ap (λ (p : Packet). p.stamp) (same_packet-true (packet_with some) (packet_with other) same)
-    where
-      rest : same_packet (packet_with some) (packet_with some) ≡ true
-      rest = same_packet-refl (packet_with some)
-
-      with_test : (a b c d e : Bool) → a ≡ true → (((e && b) && c) && d) ≡ true → (((a && b) && c) && d) ≡ true
-      with_test true true true true e p q = refl
-      with_test true b c d true p q = q
-      with_test true b c d false p q = cc
-      with_test false b c d e p q = cc
-
-      same : same_packet (packet_with some) (packet_with other) ≡ true
-      same = with_test (same_stamp some other) _ _ _ (same_stamp some some) h rest
-
   agreeing : (vote other : Vote) → agrees_with vote other ≡ true → IsVoteOf vote.shard vote.view vote.stamp other
   unfolding agrees_with
   agreeing vote other h =
@@ -96,7 +75,7 @@ module _ (me : ClientIdentity) (inputs : List ClientInput) (number : ℕ) (id : 
       record {
         shard_is = λ i. record { 0 = eqb-true other.shard.0 vote.shard.0 parts.0 i };
         view_is = λ i. record { 0 = eqb-true other.view.0 vote.view.0 more.0 i };
-        stamp_is = same_stamps other.stamp vote.stamp more.1;
+        stamp_is = same_stamp-true other.stamp vote.stamp more.1;
       }
 
   each_passes : (test : Vote → Bool) (P : Vote → Type 0) → ((vote : Vote) → test vote ≡ true → P vote) → (votes : List Vote) → Each P (filter test votes)

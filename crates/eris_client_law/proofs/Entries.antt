@@ -14,6 +14,7 @@ use Rattle.eris_base.specs.TxnIds.{same_id}
 use Rattle.eris_base.proofs.TxnIdLaws.{same_id-true, same_id-refl, same_id-from}
 use Rattle.eris_rules.specs.declared.transaction.Transaction.{Transaction}
 use Rattle.eris_rules.specs.ClientStates.{ClientState, transaction_at, txn_id_cmp, with_transaction}
+use Rattle.eris_rules.proofs.ClientIds.{one_id}
 
 equal_numbers : (m n : ℕ) → is_eq (nat_cmp m n) ≡ (m == n)
 equal_numbers m n = grind (arith, nat_tests)
@@ -22,10 +23,6 @@ equal_numbers m n = grind (arith, nat_tests)
 equal_ids : (some other : TxnId) → is_at (txn_id_cmp some) other ≡ same_id some other
 unfolding same_id
 equal_ids some other = sym (tied_then (nat_cmp some.client.0 other.client.0) (nat_cmp some.number other.number)) ∙ rw (equal_numbers some.client.0 other.client.0, equal_numbers some.number other.number) refl
-
--- ids that compare as equal are one
-one_id : (some other : TxnId) → txn_id_cmp some other ≡ Equal → some ≡ other
-one_id some other is = same_id-true some other (sym (equal_ids some other) ∙ ap is_eq is)
 
 -- and others aren't
 two_ids : (some other : TxnId) → txn_id_cmp some other ≡ Greater → same_id some other ≡ false

@@ -1,8 +1,8 @@
 -- WHERE WHAT A CLIENT COUNTED WAS SAID over an order of packets, each of its events is counted as evidence asks. Used where
 -- the protocol's half of the law meets the meaning's.
-use Rattle.std.proofs.Common.{◌≡◌, ◌≤◌, ℕ, zero, suc, Bool, true, ◌||◌, Option, Some, unwrap_or, List, [], ◌∷◌, refl, ap, sym, ◌∙◌, subst, inl, inr, arith}
-use Rattle.std.specs.Prelude.{◌⊎◌, is_some}
-use Rattle.std.proofs.lemmas.Bool.{cond_both, eq-eqb}
+use Rattle.std.proofs.Common.{◌≡◌, ◌≤◌, ℕ, zero, suc, true, Option, Some, unwrap_or, List, [], ◌∷◌, refl, ap, sym, ◌∙◌, subst, inl, inr, arith}
+use Rattle.std.specs.Prelude.{is_some}
+use Rattle.std.proofs.lemmas.Bool.{cond_both}
 use Rattle.eris_base.specs.declared.ids.Phase.{Phase}
 use Rattle.eris_base.specs.declared.ids.ShardId.{ShardId}
 use Rattle.eris_base.specs.declared.ids.TxnId.{TxnId}
@@ -26,9 +26,11 @@ use Rattle.eris_serial.specs.Evidence.{AnswerEvidence, ByOutcome, ByRefusal, ByW
 use Rattle.eris_serial.specs.Transactions.{CanRun, takes_part}
 use Rattle.eris_serial.proofs.JoinedShares.{read_joined, whole_joined}
 use Rattle.eris_serial.proofs.Runnable.{Each-of, plan_can_run, txn_can_run}
+use Rattle.eris_serial.proofs.CountedStands.{some_shard}
 use Rattle.eris_client_law.specs.Bridges.{CountedIsSaid, IsHistoryWith}
 use Rattle.eris_client_law.specs.ClientRuns.{AbortsOthers, ClientInput, history_to}
 use Rattle.eris_base.specs.Each.{Each}
+use Rattle.eris_base.proofs.Numbers.{last_or}
 use Rattle.eris_client_law.specs.Counts.{CountedOn}
 use Rattle.eris_client_law.proofs.Counting.{counted_later}
 use Rattle.eris_client_law.proofs.Resting.{happened}
@@ -36,10 +38,6 @@ use Rattle.eris_client_law.specs.Courses.{events_of}
 use Rattle.eris_client_law.specs.Rests.{AllCommit, AnswerRests, EventRests, OfConclusion, OfRefusal, OfWhole, OneAborts, OutcomeRests}
 use Rattle.eris_client_law.proofs.Events.{event_there, txn_by_events}
 use Rattle.eris_client_law.proofs.Growing.{event_stays, submit_stays}
-
-first_on : (keys : List Key) → (keys ≡ [] → ⊥) → (shard : ShardId) × (any_on keys shard ≡ true)
-first_on [] some = absurd (some refl)
-first_on (key ∷ keys) some = (key.shard, ap (λ (b : Bool). b || any_on keys key.shard) (eq-eqb key.shard.0 key.shard.0 refl))
 
 conclusion_keys : (plan : PlanValue) (values : List (Option ℕ)) → keys_of (conclusion_of plan (value_in plan.keys values)) ≡ plan.keys
 conclusion_keys plan values = cond_both (guards_hold plan.guards (value_in plan.keys values)) (Commit plan.keys (writes_from plan.settings (value_in plan.keys values))) (Abort plan.keys) (λ b. keys_of b ≡ plan.keys) (λ h. refl) (λ h. refl)
@@ -64,7 +62,7 @@ module _ (me : ClientIdentity) (inputs : List ClientInput) (number : ℕ) (histo
   outcome_said : (id : TxnId) (plan : PlanValue) (body : Body) (outcome : Answer) → txn_of history id ≡ General plan → keys_of body ≡ plan.keys → phase_of body ≡ Phase.Conclude
       → OutcomeRests me inputs number id body outcome → OutcomeEvidence (txn_of history) id outcome packets
   outcome_said id plan body outcome is keys phase (AllCommit own all) =
-      let first = first_on plan.keys (plan_can_run history id plan with.well is).some_key in
+      let first = some_shard plan.keys (plan_can_run history id plan with.well is).some_key in
       record {
         plan = plan;
         is = is;
@@ -122,16 +120,13 @@ module _ (me : ClientIdentity) (inputs : List ClientInput) (number : ℕ) (histo
       outcome_said id general.0 (Abort rests.keys) answer general.1 general.2 refl rests.rests
 
 -- ---- of the whole history
-last : (j k : ℕ) → j ≤ suc k → (j ≤ k) ⊎ (j ≡ suc k)
-last j k h = grind arith
-
 -- a shard that was counted stays so
 counted_stays : (me : ClientIdentity) (inputs : List ClientInput) (id : TxnId) (body : Body) (shard : ShardId) (answer : Answer) (early late : ℕ) → early ≤ late
     → CountedOn me inputs early id body shard answer → CountedOn me inputs late id body shard answer
 counted_stays me inputs id body shard answer early zero h on =
     let is : early ≡ 0 = omega arith in subst (λ (n : ℕ). CountedOn me inputs n id body shard answer) is on
 counted_stays me inputs id body shard answer early (suc late) h on =
-    elim (last early late h) [
+    elim (last_or early late h) [
       | inl before ↦ counted_later me inputs late id body shard answer (counted_stays me inputs id body shard answer early late before on)
       | inr same ↦ subst (λ (n : ℕ). CountedOn me inputs n id body shard answer) same on
     ]

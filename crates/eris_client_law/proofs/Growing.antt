@@ -1,9 +1,9 @@
 -- A client's history only grows: what stood in it at a moment stands in it later, and what an id's transaction is stays so.
 -- Used where facts of a step are read at a later moment.
 use Rattle.std.proofs.Common.{◌≡◌, ◌≤◌, ℕ, zero, suc, Bool, true, false, cond, Option, Some, None, List, [], ◌∷◌, ◌++◌, refl, ap, sym, ◌∙◌, subst, arith, inl, inr, append-nil}
-use Rattle.std.specs.Prelude.{◌⊎◌}
 use Rattle.eris_base.specs.declared.ids.TxnId.{TxnId}
 use Rattle.eris_base.specs.TxnIds.{same_id}
+use Rattle.eris_base.proofs.Numbers.{last_or}
 use Rattle.eris_txn.specs.declared.history.HistoryEvent.{HistoryEvent}
 use Rattle.eris_txn.specs.declared.history.HistoryEvent.TheVariants.{Submit, Read, Answer as Answered, Told}
 use Rattle.eris_txn.specs.declared.txn.Txn.{Txn}
@@ -21,9 +21,6 @@ joined_lists : (front middle after : List HistoryEvent) → (front ++ middle) ++
 joined_lists [] middle after = refl
 joined_lists (event ∷ front) middle after = ap (λ (l : List HistoryEvent). event ∷ l) (joined_lists front middle after)
 
-last : (j k : ℕ) → j ≤ suc k → (j ≤ k) ⊎ (j ≡ suc k)
-last j k h = grind arith
-
 -- THE HISTORY OF A MOMENT begins that of each later one
 pub grows : (me : ClientIdentity) (inputs : List ClientInput) (early late : ℕ) → early ≤ late → (more : List HistoryEvent) × (history_to me inputs late ≡ history_to me inputs early ++ more)
 unfolding history_to
@@ -31,7 +28,7 @@ grows me inputs early zero h =
     let is : 0 ≡ early = omega arith in
     ([], sym (append-nil (history_to me inputs 0)) ∙ ap (λ (n : ℕ). history_to me inputs n ++ []) is)
 grows me inputs early (suc late) h =
-    elim (last early late h) [
+    elim (last_or early late h) [
       | inl before ↦ (let rest = grows me inputs early late before in
           let next = longer (history_to me inputs late) (step_at me inputs late).event in
           (rest.0 ++ next.0, next.1 ∙ (ap (λ (l : List HistoryEvent). l ++ next.0) rest.1 ∙ joined_lists (history_to me inputs early) rest.0 next.0)))

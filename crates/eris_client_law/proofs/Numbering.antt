@@ -1,6 +1,6 @@
 -- A client's own ids are submitted in order, numbered from 1. Used where an id is shown to be submitted before it is
 -- stamped, and where a Told is of a submitted transaction.
-use Rattle.std.proofs.Common.{◌≡◌, ◌+◌, ℕ, zero, suc, Option, Some, None, List, [], ◌∷◌, ◌++◌, map, refl, ap, sym, ◌∙◌, arith}
+use Rattle.std.proofs.Common.{◌≡◌, ◌+◌, ℕ, zero, suc, Option, Some, None, List, [], ◌∷◌, ◌++◌, map, refl, ap, sym, ◌∙◌, arith, append-nil}
 use Rattle.std.specs.Prelude.{slice_get}
 use Rattle.std.specs.List.{range_with_len}
 use Rattle.std.proofs.lemmas.List.FromFn.{map-range_with_len_more}
@@ -21,17 +21,13 @@ submitted-append (Read id values ∷ history) more = submitted-append history mo
 submitted-append (Answered id answer ∷ history) more = submitted-append history more
 submitted-append (Told asker id answer ∷ history) more = submitted-append history more
 
-nothing_more : {X : Type 0} (l : List X) → l ++ [] ≡ l
-nothing_more [] = refl
-nothing_more (x ∷ l) = ap (λ rest. x ∷ rest) (nothing_more l)
-
 -- the ids of a client that submitted so many
 abbrev pub numbered : ClientIdentity → ℕ → List TxnId
 numbered me count = map (own_id me) (range_with_len 1 count)
 
 module _ (me : ClientIdentity) (state : ClientState) (history : List HistoryEvent) (so : submitted_ids history ≡ numbered me state.submitted) where
   other_event : (event : HistoryEvent) → submitted_ids (event ∷ []) ≡ [] → submitted_ids (history ++ event ∷ []) ≡ numbered me state.submitted
-  other_event event none = submitted-append history (event ∷ []) ∙ (ap (λ (l : List TxnId). submitted_ids history ++ l) none ∙ (nothing_more (submitted_ids history) ∙ so))
+  other_event event none = submitted-append history (event ∷ []) ∙ (ap (λ (l : List TxnId). submitted_ids history ++ l) none ∙ (append-nil (submitted_ids history) ∙ so))
 
   numbered_step : (input : ClientInput) (out : ClientOut) → Leaf me state input out → submitted_ids (with_event history out.event) ≡ numbered me out.state.submitted
   unfolding submit begins_half finishes is_executed concludes has_concluded is_told with_transaction

@@ -16,6 +16,7 @@ use Rattle.eris_txn.specs.declared.txn.Txn.{Txn}
 use Rattle.eris_txn.specs.PlanValues.{PlanValue}
 use Rattle.eris_general.specs.Outcomes.{is_aborted}
 use Rattle.eris_locks.specs.States.{phase_of, same_phase}
+use Rattle.eris_locks.proofs.PhaseLaws.{same_phase-true}
 use Rattle.eris_msg.specs.declared.message.Message.{Message}
 use Rattle.eris_rules.specs.declared.transaction.Course.{Course}
 use Rattle.eris_rules.specs.declared.transaction.Course.TheVariants.{Executing, Reading, Concluding, Aborting}
@@ -63,18 +64,6 @@ pub data Leaf (me : ClientIdentity) (state : ClientState) : ClientInput → Clie
       → (plan : PlanValue) (body : Body) → after.course ≡ Concluding plan body → Leaf me state (Gets message) (has_concluded state id after)
   Tells : (message : Message) (id : TxnId) (before after : Transaction) → Heard me state message id before after → is_complete after ≡ true
       → (keys : List Key) → after.course ≡ Aborting keys → Leaf me state (Gets message) (is_told me state id after)
-
--- the test of phases is true for equal ones alone
-same_phase-true : (some other : Phase) → same_phase some other ≡ true → some ≡ other
-same_phase-true Phase.Whole Phase.Whole h = refl
-same_phase-true Phase.Whole Phase.Prelim h = cc
-same_phase-true Phase.Whole Phase.Conclude h = cc
-same_phase-true Phase.Prelim Phase.Whole h = cc
-same_phase-true Phase.Prelim Phase.Prelim h = refl
-same_phase-true Phase.Prelim Phase.Conclude h = cc
-same_phase-true Phase.Conclude Phase.Whole h = cc
-same_phase-true Phase.Conclude Phase.Prelim h = cc
-same_phase-true Phase.Conclude Phase.Conclude h = refl
 
 module _ (me : ClientIdentity) (state : ClientState) where
   choose : (input : ClientInput) (test : Bool) (some other : ClientOut) → (test ≡ true → Leaf me state input some) → (test ≡ false → Leaf me state input other) → Leaf me state input (if test then some else other)

@@ -5,7 +5,6 @@ use Rattle.std.specs.Prelude.{⊤}
 use Rattle.std.specs.List.{flat_map}
 use Rattle.std.proofs.lemmas.Bool.{cond_both}
 use Rattle.eris_base.specs.declared.ids.Epoch.{Epoch}
-use Rattle.eris_base.specs.declared.ids.Node.{Node}
 use Rattle.eris_base.specs.declared.ids.Place.{Place}
 use Rattle.eris_base.specs.declared.ids.ReplicaId.{ReplicaId}
 use Rattle.eris_base.specs.ConfigLimits.{ConfigValue}
@@ -22,10 +21,11 @@ use Rattle.eris_msg.proofs.MessageFits as m
 use Rattle.eris_rules.specs.Addressees.{all_replicas}
 use Rattle.eris_rules.specs.CoordStates.{EpochCoord, EpochCoordOut, unmoved}
 use Rattle.eris_rules.specs.EpochCoords.{finder_of, to_all, tells_found, tells_dropped, asks_all, asks_new, finds_lost, finds_by, find_row, places_had, all_hear_dropped, keeps_found, drops_rest, has_wanted, has_row, drops_place, drops_decided, notes_drop, temp_dropped_row, epoch_coord_step}
-use Rattle.eris_rules.specs.EpochMessages.{EpochMessage, send_each, Stamped, Instructs, Notifies, Exchanges, Responds, Request, Found, Dropped, Find, Has, TempDropped}
+use Rattle.eris_rules.specs.EpochMessages.{EpochMessage, Stamped, Instructs, Notifies, Exchanges, Responds, Request, Found, Dropped, Find, Has, TempDropped}
 use Rattle.eris_rules.specs.Outer.{outer, outer_sends}
 use Rattle.eris_rules.proofs.OuterLaws.{outer_sends-append}
 use Rattle.eris_in_place.specs.MessageRanges.{PacketFits, PlaceFits, PlacesFit, MessageFits, SendsFit}
+use Rattle.eris_in_place.proofs.SendLaws.{each_sent}
 use Rattle.eris_coord.proofs.EachItem.{Each-with_item, Each-find, OnFound}
 use Rattle.eris_coord.specs.Fitting.{InnerFits}
 
@@ -36,12 +36,8 @@ pub record OutFits (epoch : Epoch) (out : EpochCoordOut) : Type 0 where
 unmoved-fits : (epoch : Epoch) (inner : EpochCoord) → InnerFits inner → OutFits epoch (unmoved inner)
 unmoved-fits epoch inner h = record { inner = h; sends = tt }
 
-each_node : (epoch : Epoch) (nodes : List Node) (message : EpochMessage) → MessageFits (outer epoch message) → SendsFit (outer_sends epoch (send_each nodes message))
-each_node epoch [] message h = tt
-each_node epoch (node ∷ nodes) message h = (h, each_node epoch nodes message h)
-
 all_nodes : (epoch : Epoch) (config : ConfigValue) (message : EpochMessage) → MessageFits (outer epoch message) → SendsFit (outer_sends epoch (to_all config message))
-all_nodes epoch config message h = each_node epoch (all_replicas config) message h
+all_nodes epoch config message h = each_sent epoch (all_replicas config) message h
 
 pub each_place : (epoch : Epoch) (config : ConfigValue) (about : Place → EpochMessage) → ((place : Place) → PlaceFits place → MessageFits (outer epoch (about place)))
     → (places : List Place) → PlacesFit places → SendsFit (outer_sends epoch (flat_map (λ place. to_all config (about place)) places))

@@ -6,11 +6,12 @@ ghost use Rattle.eris_coord.specs.CoordinatorValues.{after};
 
 use crate::packets::copy_finder;
 use crate::places::add;
-use crate::sends::{request_all, tell, tell_all};
+use crate::sends::{request_all, tell_all};
 use crate::state::State;
-use eris_base::{NoMemory, Place, ReplicaId, Row};
+use eris_base::{NoMemory, Node, Place, ReplicaId, Row};
 use eris_log::places::is_among;
 use eris_msg::{Message, Outgoing};
+use eris_rules::tell;
 use eris_txn::Packet;
 
 impl State {
@@ -36,7 +37,11 @@ impl State {
             (coord_steps_in self.old.state (finds_by self.old.config self.old.state.inner replica place found))) }
     {
         match found {
-            Some(packet) => tell(self.alloc, place.shard, replica, Message::Found { packet }),
+            Some(packet) => tell(
+                self.alloc,
+                Node::Replica(place.shard, replica),
+                Message::Found { packet },
+            ),
             None => self.find_lost(replica, place),
         }
     }
@@ -48,7 +53,11 @@ impl State {
             (coord_steps_in self.old.state (finds_lost self.old.config self.old.state.inner replica place))) }
     {
         if is_among(self.dropped.as_slice(), place) {
-            return tell(self.alloc, place.shard, replica, Message::Dropped { place });
+            return tell(
+                self.alloc,
+                Node::Replica(place.shard, replica),
+                Message::Dropped { place },
+            );
         }
         self.ask_new(place)
     }

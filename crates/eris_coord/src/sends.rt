@@ -7,28 +7,12 @@ ghost use Rattle.eris_rules.specs.Addressees.{replica_node, shard_replicas, all_
 ghost use Rattle.eris_rules.specs.Coordinators.{tell_all};
 ghost use Rattle.eris_rules.specs.Outer.{tell_each};
 
-use eris_base::{Config, Dup, Epoch, NoMemory, Node, Place, ReplicaId, Row, ShardId};
+use eris_base::{Config, Epoch, NoMemory, Node, Place, ReplicaId, Row, ShardId};
 use eris_epoch::shard_log;
 use eris_msg::{Message, Outgoing};
+use eris_rules::{tell, tell_each};
 use eris_txn::Packet;
 use std::alloc::Global;
-
-/// The message to one replica.
-pub fn tell(
-    alloc: Global,
-    shard: ShardId,
-    replica: ReplicaId,
-    message: Message,
-) -> Result<Row<Outgoing>, NoMemory>
-    ensures { IfOk result (λ sends. sends ≡ record { to = Replica shard replica; message = message } ∷ []) }
-{
-    let mut sends = Row::new(alloc);
-    sends.push(Outgoing {
-        to: Node::Replica(shard, replica),
-        message,
-    })?;
-    Ok(sends)
-}
 
 /// The message to every replica of every shard.
 pub fn tell_all(alloc: Global, config: &Config, message: Message) -> Result<Row<Outgoing>, NoMemory>
@@ -91,8 +75,7 @@ pub fn start_one(
     let packets = shard_log(alloc, closed, shard)?;
     tell(
         alloc,
-        shard,
-        replica,
+        Node::Replica(shard, replica),
         Message::StartEpoch {
             epoch,
             shard,
@@ -186,30 +169,4 @@ fn tell_nodes(
     ensures { OnOk result (sends.new ≡ sends.old ++ tell_each nodes.now message) }
 {
     tell_each(alloc, sends, nodes, &message)
-}
-
-fn tell_each(
-    alloc: Global,
-    sends: &mut Row<Outgoing>,
-    nodes: &[Node],
-    message: &Message,
-) -> Result<(), NoMemory>
-    ensures { OnOk result (sends.new ≡ sends.old ++ tell_each nodes.now message.now) }
-{
-    for node in nodes {
-        tell_node(alloc, sends, *node, message)?;
-    }
-    Ok(())
-}
-
-fn tell_node(
-    alloc: Global,
-    sends: &mut Row<Outgoing>,
-    to: Node,
-    message: &Message,
-) -> Result<(), NoMemory>
-    ensures { OnOk result (sends.new ≡ sends.old ++ record { to = to; message = message.now } ∷ []) }
-{
-    let message = message.copy(alloc)?;
-    sends.push(Outgoing { to, message })
 }

@@ -11,6 +11,7 @@ use Rattle.eris_base.specs.declared.ids.TxnId.{TxnId}
 use Rattle.eris_base.specs.ConfigLimits.{ConfigValue}
 use Rattle.eris_base.specs.TxnIds.{same_id}
 use Rattle.eris_base.proofs.TxnIdLaws.{same_id-true}
+use Rattle.eris_base.proofs.IdLaws.{client_equal}
 use Rattle.eris_txn.specs.declared.body.Body.{Body}
 use Rattle.eris_txn.specs.declared.history.HistoryEvent.{HistoryEvent}
 use Rattle.eris_txn.specs.declared.history.HistoryEvent.TheVariants.{Submit, Read, Answer as Answered, Told}
@@ -26,8 +27,8 @@ use Rattle.eris_rules.specs.Worlds.{WorldState, client_at, first_world, with_eve
 use Rattle.eris_serial.specs.Evidence.{IsIn}
 use Rattle.eris_epoch_law.specs.Members.{In}
 use Rattle.eris_epoch_law.proofs.Members.{Each-at, In-append}
+use Rattle.eris_epoch_law.proofs.Frame.{get-set, get-set_same}
 use Rattle.eris_agreement.specs.WorldMoments.{moment_from, perhaps as perhaps_happens, world_at}
-use Rattle.eris_agreement.proofs.Cells.{get-set, get-set_same}
 use Rattle.eris_client_law.specs.ClientRuns.{AbortsOthers, ClientInput, client_does, history_to, moment, perhaps, step_at}
 use Rattle.eris_client_law.proofs.Asking.{ask_rests}
 use Rattle.eris_client_law.proofs.Growing.{event_stays}
@@ -38,9 +39,6 @@ use Rattle.eris_course_law.specs.Submitted.{HasAsked, IsOfClient}
 use Rattle.eris_course_law.proofs.Actions.{Acting, ItActs, NobodyActs, OthersAct, Rests, ClientSide, acting, side_of}
 use Rattle.eris_course_law.proofs.Calls.{aborts_others, input-at}
 use Rattle.eris_course_law.proofs.ServerSends.{IsNoAskSent}
-
-pub client_equal : (a b : ClientId) → a.0 ≡ b.0 → a ≡ b
-client_equal a b e = λ i. record { 0 = e i }
 
 -- what no client takes does nothing
 nothing_done : (me : ClientIdentity) (state : ClientState) → client_does me state nothing ≡ idle state

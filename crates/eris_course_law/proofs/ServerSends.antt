@@ -7,6 +7,7 @@ use Rattle.std.proofs.lemmas.Bool.{cond_both}
 use Rattle.eris_base.specs.declared.ids.Epoch.{Epoch}
 use Rattle.eris_base.specs.ConfigLimits.{ConfigValue}
 use Rattle.eris_base.specs.Each.{Each}
+use Rattle.eris_base.proofs.Each.{Each-any}
 use Rattle.eris_txn.specs.declared.packet.Packet.{Packet}
 use Rattle.eris_msg.specs.declared.message.Message.{Message}
 use Rattle.eris_msg.specs.declared.outgoing.Outgoing.{Outgoing}
@@ -21,7 +22,7 @@ use Rattle.eris_rules.specs.EpochCoords.{nudge_row}
 use Rattle.eris_rules.specs.Outer.{outer, outer_sends, tell_each}
 use Rattle.eris_rules.specs.ReplicaStates.{Identity, ReplicaState, ReplicaOut}
 use Rattle.eris_rules.specs.Replicas.{steps_in, steps, asks_start, promises, replica_step}
-use Rattle.eris_epoch_law.proofs.Members.{Each-any, Each-map, Each-flat_map}
+use Rattle.eris_epoch_law.proofs.Members.{Each-map, Each-flat_map}
 use Rattle.eris_agreement.proofs.CoordLeaves.{CoordLeaf, coord_leaf, noting}
 use Rattle.eris_agreement.proofs.EpochGrowth.{each_told, each_packet_send}
 use Rattle.eris_agreement.proofs.ReplicaLeaves.{ReplicaLeaf, replica_leaf}

@@ -30,7 +30,7 @@ same_account some other same =
 pub accounts_differ : (some other : ℕ) → (some ≡ other → ⊥) → same_key (account some) (account other) ≡ false
 accounts_differ some other differ = same_key-false (account some) (account other) (λ same. differ (same_account some other same))
 
-other_side : (turn : Turn) → turn.payer < 16 → turn.distance < 15 → turn.payer ≡ (turn.payer + 1 + turn.distance) % 16 → ⊥
+pub other_side : (turn : Turn) → turn.payer < 16 → turn.distance < 15 → turn.payer ≡ (turn.payer + 1 + turn.distance) % 16 → ⊥
 other_side turn few near same = absurd (omega (arith, few, near, same))
 
 -- nobody pays himself

@@ -1,6 +1,7 @@
 -- THE EVENTS OF A DRILL FIT THE GRAMMAR: their numbers are in its ranges, and a transfer is a plan.
 use Rattle.std.proofs.Common.{◌≡◌, ◌≤◌, ◌<◌, ◌+◌, ◌/◌, ◌%◌, ◌==◌, ℕ, Bool, true, false, cond, ◌-◌, ◌^◌, Option, None, List, [], ◌∷◌, nat_le, refl, ap, arith}
 use Rattle.std.proofs.lemmas.Bool.Decides.{nat_tests}
+use Rattle.std.proofs.lemmas.Bool.{and_from}
 use Rattle.std.specs.Prelude.{is_none}
 use Rattle.eris_txn.specs.declared.key.Key.{Key}
 use Rattle.eris_txn.specs.declared.op.Op.TheVariants.{Get}
@@ -12,7 +13,6 @@ use Rattle.eris_script.specs.declared.event.Event.TheVariants as event
 use Rattle.eris_script.specs.Fields.{client, key, number, two_numbers, txn, value}
 use Rattle.eris_script.specs.LineForms.{fits_event}
 use Rattle.eris_script.specs.PlanForms.{is_plan}
-use Rattle.eris_script.proofs.FormLaws.{both}
 use Rattle.eris_drill.specs.declared.turn.Turn.{Turn}
 use Rattle.eris_drill.specs.Draws.{turn_at, turn_from}
 use Rattle.eris_drill.specs.DrillLines.{account, asked, opening_put, payee, payer, teller, transfer}
@@ -28,11 +28,11 @@ below_256 number = grind (arith, nat_tests)
 
 pub key_fits : (number : ℕ) → number < 16 → (key 1).fits (account number) ≡ true
 unfolding key account
-key_fits number low = both _ _ (low_shard number) (account_name number low)
+key_fits number low = and_from _ _ (low_shard number) (account_name number low)
 
 pub put_fits : (number : ℕ) → number < 16 → fits_event 1 (opening_put number) ≡ true
 unfolding opening_put teller client number value
-put_fits number low = both _ _ (below_256 number) (both _ _ (both _ _ (key_fits number low) refl) refl)
+put_fits number low = and_from _ _ (below_256 number) (and_from _ _ (and_from _ _ (key_fits number low) refl) refl)
 
 behind : (turn : Turn) → (turn.payer + 1 + turn.distance) % 16 < 16
 behind turn = omega arith
@@ -61,11 +61,11 @@ transfer_fits turn drawn =
     let from = payer_key turn drawn in
     let to = payee_key turn in
     let amount = amount_fits turn drawn in
-    let keys = both _ _ from (both _ _ to refl) in
-    let guards = both _ _ (both _ _ from amount) refl in
-    let settings = both _ _ (both _ _ from amount) (both _ _ (both _ _ to amount) refl) in
+    let keys = and_from _ _ from (and_from _ _ to refl) in
+    let guards = and_from _ _ (and_from _ _ from amount) refl in
+    let settings = and_from _ _ (and_from _ _ from amount) (and_from _ _ (and_from _ _ to amount) refl) in
     let planned = none_found (transfer turn).keys (transfer turn).guards (transfer turn).settings (transfer_is_plan turn drawn.payer drawn.distance) in
-    both _ _ (both _ _ (both _ _ (both _ _ (both _ _ keys guards) settings) refl) refl) planned
+    and_from _ _ (and_from _ _ (and_from _ _ (and_from _ _ (and_from _ _ keys guards) settings) refl) refl) planned
 
 client_fits : (at : ℕ) → client.fits (record { 0 = at % 8 }) ≡ true
 unfolding client number
@@ -76,15 +76,15 @@ unfolding asked teller
 asked_fits at turn drawn = by_kind (turn.kind == 0)
   where
     by_kind : (test : Bool) → fits_event 1 (cond test (event.Submit (record { 0 = at % 8 }) (Get (payer turn) ∷ Get (payee turn) ∷ [])) (event.General (record { 0 = at % 8 }) (transfer turn))) ≡ true
-    by_kind true = both _ _ (client_fits at) (both _ _ refl (both _ _ refl (both _ _ (payer_key turn drawn) (both _ _ (payee_key turn) refl))))
-    by_kind false = both _ _ (client_fits at) (transfer_fits turn drawn)
+    by_kind true = and_from _ _ (client_fits at) (and_from _ _ refl (and_from _ _ refl (and_from _ _ (payer_key turn drawn) (and_from _ _ (payee_key turn) refl))))
+    by_kind false = and_from _ _ (client_fits at) (transfer_fits turn drawn)
 
 retry_number : (turn : ℕ) → turn < 500 → nat_le (3 + turn / 8) (2 ^ 32 - 1) ≡ true
 retry_number turn low = grind (arith, nat_tests)
 
 pub retry_fits : (turn : ℕ) → turn < 500 → fits_event 1 (event.Retry (teller turn) (3 + turn / 8)) ≡ true
 unfolding teller txn two_numbers
-retry_fits turn low = both _ _ (below_256 turn) (retry_number turn low)
+retry_fits turn low = and_from _ _ (below_256 turn) (retry_number turn low)
 
 word_amount : (word : ℕ) → word % 100 + 1 ≤ 100
 word_amount word = omega arith

@@ -1,6 +1,7 @@
 -- EACH LINE OF A DRILL IS READ as what it was made from.
 use Rattle.std.proofs.Common.{◌≡◌, ◌≤◌, ◌<◌, ◌+◌, ◌/◌, ◌%◌, ◌==◌, ◌∙◌, ◌^◌, ◌-◌, ℕ, zero, suc, Bool, true, false, cond, nat_le, nat_lt, Result, Ok, List, [], ◌∷◌, ◌++◌, refl, ap, arith, codes, lit<}
 use Rattle.std.proofs.lemmas.Bool.Decides.{nat_tests}
+use Rattle.std.proofs.lemmas.Bool.{and_from}
 use Rattle.eris_base.specs.Each.{Each}
 use Rattle.eris_base.proofs.Each.{Each-append}
 use Rattle.eris_txn.specs.declared.op.Op.TheVariants.{Get}
@@ -17,7 +18,7 @@ use Rattle.eris_script.specs.LineForms.{fits_event, line_saying}
 use Rattle.eris_script.proofs.FieldLaws.{is_count}
 use Rattle.eris_script.proofs.SpellingLaws.{event_back, read_as_spelled}
 use Rattle.eris_script.proofs.SplitLaws.{words_joined}
-use Rattle.eris_script.proofs.FormLaws.{are_plain, both}
+use Rattle.eris_script.proofs.FormLaws.{are_plain}
 use Rattle.eris_drill.specs.declared.turn.Turn.{Turn}
 use Rattle.eris_drill.specs.Draws.{turn_at}
 use Rattle.eris_drill.specs.DrillLines.{asked, bank, below, closing, drill_lines, noon, opening, opening_put, payee, payer, retry_lines, settler, teller, transfer, turn_lines, upkeep, weather}
@@ -100,7 +101,7 @@ weather_read turn = by_weather (turn.weather == 0)
 
 timer_fits : (shard at : ℕ) → shard < 4 → at < 3 → (replica 1).fits (record { 0 = shard }, record { 0 = at }) ≡ true
 unfolding replica two_numbers
-timer_fits shard at few low = both _ _ (shard_fits shard few) (at_fits at low)
+timer_fits shard at few low = and_from _ _ (shard_fits shard few) (at_fits at low)
   where
     shard_fits : (n : ℕ) → n < 4 → nat_le n 255 ≡ true
     shard_fits n small = grind (arith, nat_tests)
@@ -134,7 +135,7 @@ upkeep_read first flows low few = (
   ),
 )
 
-settler_low : (number turn : ℕ) → settler number turn < 3
+pub settler_low : (number turn : ℕ) → settler number turn < 3
 unfolding settler
 settler_low number turn = by_test (nat_lt turn (number / 2))
   where

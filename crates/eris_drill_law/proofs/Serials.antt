@@ -16,7 +16,8 @@ use Rattle.eris_txn.specs.declared.txn.Txn.TheVariants.{Whole}
 use Rattle.eris_audit.specs.declared.order_line.OrderLine.{OrderLine}
 use Rattle.eris_audit.specs.Histories.{first_submit, is_submitted, txn_of}
 use Rattle.eris_audit.specs.IsSerial.{AnsweredStandsBefore, FollowsAnswered, HasItsLine, IsOrderLine, IsSerial}
-use Rattle.eris_audit.specs.Lines.{Line, StandsOnce, has_line, lines_of, stands_before}
+use Rattle.eris_audit.specs.Lines.{Line, has_line, lines_of, stands_before}
+use Rattle.eris_audit.proofs.Turns.{order_lines-once}
 use Rattle.eris_drill_law.specs.BankHistories.{Happened, IsBankHistory}
 use Rattle.eris_drill_law.specs.Banks.{IsDay, IsPut, IsTurn, Opens, OpensSome}
 use Rattle.eris_drill_law.proofs.Splitting.{IsSplit, StandFirst, once_in, split}
@@ -83,10 +84,6 @@ follows lines early seen (event ∷ late) id answered txn answer each (inr later
     follows lines early (seen ++ event ∷ []) late id answered txn answer
     (subst (λ (all : List HistoryEvent). EachAfter (FollowsAnswered lines) all late) (append_assoc early seen (event ∷ [])) each.1) later known first second
 
-once_of : (events : List HistoryEvent) (before lines : List Line) → EachAfter (IsOrderLine events) before lines → EachAfter StandsOnce before lines
-once_of events before [] each = tt
-once_of events before (line ∷ lines) each = (each.0.once, once_of events (before ++ line ∷ []) lines each.1)
-
 submitted_of : (events : List HistoryEvent) (before : List Line) (lines : List OrderLine) → EachAfter (IsOrderLine events) before (lines_of lines) → Each (λ line. is_submitted events line.id ≡ true) lines
 submitted_of events before [] each = tt
 submitted_of events before (line ∷ lines) each = (each.0.submitted, submitted_of events (before ++ record { id = line.id; outcome = line.outcome } ∷ []) lines each.1)
@@ -145,7 +142,7 @@ module _ (events : List HistoryEvent) (lines : List OrderLine) (bank : IsBankHis
       asked.2 answered.there there too
 
   parts : IsSplit is_early lines
-  parts = split is_early lines (once_in [] lines (once_of events [] (lines_of lines) serial.order_lines)) puts_first
+  parts = split is_early lines (once_in [] lines (order_lines-once events [] (lines_of lines) serial.order_lines)) puts_first
 
   put_line : (number : ℕ) → number < 16 → Opens (txn_of events) number parts.front
   put_line number low =

@@ -10,6 +10,7 @@ use Rattle.eris_base.proofs.Each.{Each-weaker}
 use Rattle.eris_base.proofs.TxnIdLaws.{same_id-refl, same_id-true}
 use Rattle.eris_audit.specs.declared.order_line.OrderLine.{OrderLine}
 use Rattle.eris_audit.specs.Lines.{Line, StandsOnce, has_line, lines_of, stands_before}
+use Rattle.eris_audit.proofs.Turns.{has_line-last}
 
 -- each id stands once
 abbrev pub OnceIn : List OrderLine → Type 0
@@ -24,14 +25,6 @@ has_more (first ∷ before) line id there = by_first (same_id first.id id) (λ m
     by_first true more known = refl
     by_first false more known = more known
 
-has_last : (before : List Line) (line : Line) → has_line (before ++ line ∷ []) line.id ≡ true
-has_last [] line = ap (λ (test : Bool). test || false) (same_id-refl line.id)
-has_last (first ∷ before) line = by_first (same_id first.id line.id) (has_last before line)
-  where
-    by_first : (test : Bool) → has_line (before ++ line ∷ []) line.id ≡ true → (test || has_line (before ++ line ∷ []) line.id) ≡ true
-    by_first true more = refl
-    by_first false more = more
-
 none_later : (before : List Line) (lines : List OrderLine) (id : TxnId) → EachAfter StandsOnce before (lines_of lines) → has_line before id ≡ true → has_line (lines_of lines) id ≡ false
 none_later before [] id once there = refl
 none_later before (line ∷ lines) id once there =
@@ -44,7 +37,7 @@ none_later before (line ∷ lines) id once there =
 pub once_in : (before : List Line) (lines : List OrderLine) → EachAfter StandsOnce before (lines_of lines) → OnceIn lines
 once_in before [] once = tt
 once_in before (line ∷ lines) once = (
-  none_later (before ++ record { id = line.id; outcome = line.outcome } ∷ []) lines line.id once.1 (has_last before (record { id = line.id; outcome = line.outcome })),
+  none_later (before ++ record { id = line.id; outcome = line.outcome } ∷ []) lines line.id once.1 (has_line-last before (record { id = line.id; outcome = line.outcome })),
   once_in (before ++ record { id = line.id; outcome = line.outcome } ∷ []) lines once.1,
 )
 

@@ -13,6 +13,7 @@ use Rattle.eris_audit.specs.declared.outcome.Outcome.{Outcome}
 use Rattle.eris_audit.specs.SerialRun.{left_by_step}
 use Rattle.eris_drill.specs.declared.turn.Turn.{Turn}
 use Rattle.eris_drill.specs.DrillLines.{account, payee, payer, transfer}
+use Rattle.eris_drill.proofs.AccountKeys.{other_side}
 use Rattle.eris_drill_law.specs.Banks.{IsDrawn, OnlyAccounts, worth}
 use Rattle.eris_drill_law.proofs.Worths.{has, worth_within}
 
@@ -65,14 +66,11 @@ turn_leaves Good txn outcome values turn (inr is) kept paid =
 behind : (turn : Turn) → (turn.payer + 1 + turn.distance) % 16 < 16
 behind turn = omega arith
 
-differ : (turn : Turn) → turn.payer < 16 → turn.distance < 15 → turn.payer ≡ (turn.payer + 1 + turn.distance) % 16 → ⊥
-differ turn few near same = omega (arith, few, near, same)
-
 -- a transfer keeps the sum
 pub transfer_keeps : (values : Values) (turn : Turn) → IsDrawn turn → worth (settled (transfer turn).settings values) 16 % 2 ^ 64 ≡ worth values 16 % 2 ^ 64
 unfolding transfer payer payee
 transfer_keeps values turn drawn =
-    pays values turn.payer ((turn.payer + 1 + turn.distance) % 16) turn.amount drawn.payer (behind turn) drawn.amount (differ turn drawn.payer drawn.distance)
+    pays values turn.payer ((turn.payer + 1 + turn.distance) % 16) turn.amount drawn.payer (behind turn) drawn.amount (other_side turn drawn.payer drawn.distance)
 
 pub transfer_only : (values : Values) (turn : Turn) → IsDrawn turn → OnlyAccounts values → OnlyAccounts (settled (transfer turn).settings values)
 unfolding transfer payer payee

@@ -2,11 +2,11 @@
 -- a client asks again for what it submitted.
 use Rattle.std.proofs.Common.{◌≡◌, ◌≤◌, ◌+◌, ◌%◌, ◌&&◌, ℕ, Bool, true, false, cond, not, Option, Some, None, is_none, is_some, List, [], ◌∷◌, refl, ap, ◌∙◌, arith}
 use Rattle.std.proofs.lemmas.Bool.Decides.{nat_tests}
+use Rattle.std.proofs.lemmas.Bool.{and_from}
 use Rattle.std.specs.List.{list_any}
 use Rattle.eris_base.specs.declared.ids.ReplicaId.{ReplicaId}
 use Rattle.eris_base.specs.declared.ids.ShardId.{ShardId}
 use Rattle.eris_txn.specs.declared.key.Key.{Key}
-use Rattle.eris_script.proofs.FormLaws.{both}
 use Rattle.eris_rules.specs.declared.refusal.Refusal.{Refusal}
 use Rattle.eris_rules.specs.declared.refusal.Refusal.TheVariants.{NoSuchClient, NoSuchShard, NoSuchTxn, NoSuchReplica, Crashed}
 use Rattle.eris_rules.specs.declared.transaction.Transaction.{Transaction}
@@ -40,11 +40,11 @@ account_known number = grind (arith, nat_tests)
 
 pub key_known : (number : ℕ) → knows_keys bank (account number ∷ []) ≡ true
 unfolding knows_keys
-key_known number = both _ _ (account_known number) refl
+key_known number = and_from _ _ (account_known number) refl
 
 pub keys_known : (turn : Turn) → knows_keys bank (payer turn ∷ payee turn ∷ []) ≡ true
 unfolding knows_keys payer payee
-keys_known turn = both _ _ (account_known turn.payer) (both _ _ (account_known ((turn.payer + 1 + turn.distance) % 16)) refl)
+keys_known turn = and_from _ _ (account_known turn.payer) (and_from _ _ (account_known ((turn.payer + 1 + turn.distance) % 16)) refl)
 
 -- ---- submissions
 pub submit_free : (at : ℕ) (keys : List Key) → knows_keys bank keys ≡ true → submit_cause bank (teller at) keys ≡ None

@@ -1,6 +1,6 @@
 -- THE RUN OF A DRILL: where each event comes, it has no cause to be refused; and at the end all has been submitted, in order.
 use Rattle.std.proofs.Common.{◌≡◌, ◌≤◌, ◌<◌, ◌+◌, ◌/◌, ◌%◌, ◌==◌, ◌⊎◌, inl, inr, ℕ, zero, suc, Bool, true, false, cond, nat_lt, ◌&&◌, None, List, [], ◌∷◌, ◌++◌, length, length-append, append_assoc, append-nil, refl, ap, sym, ◌∙◌, subst, arith, lit<, lit≤, eq-eqb, eqb-true}
-use Rattle.std.proofs.lemmas.Bool.{both_ways, cases_lt}
+use Rattle.std.proofs.lemmas.Bool.{both_ways, cases_lt, and_from}
 use Rattle.std.proofs.lemmas.Bool.Decides.{nat_tests}
 use Rattle.eris_base.specs.declared.ids.ReplicaId.{ReplicaId}
 use Rattle.eris_base.specs.declared.ids.ShardId.{ShardId}
@@ -12,7 +12,6 @@ use Rattle.eris_script.specs.declared.event.Event.{Event}
 use Rattle.eris_script.specs.declared.event.Event.TheVariants as event
 use Rattle.eris_script.specs.declared.line.Line.{Line}
 use Rattle.eris_script.specs.declared.line.Line.TheVariants.{One, Flow, Lose}
-use Rattle.eris_script.proofs.FormLaws.{both}
 use Rattle.eris_rules.specs.Clients.{submit}
 use Rattle.eris_rules.specs.Happenings.{happens}
 use Rattle.eris_rules.specs.Known.{knows_replica, knows_shard}
@@ -23,6 +22,7 @@ use Rattle.eris_drill.specs.declared.turn.Turn.{Turn}
 use Rattle.eris_drill.specs.Draws.{turn_at}
 use Rattle.eris_drill.specs.DrillLines.{account, asked, bank, below, closing, drill_lines, noon, opening, opening_put, payee, payer, retry_lines, settler, teller, transfer, turn_lines, upkeep, weather}
 use Rattle.eris_drill_law.specs.Reading.{drill_events}
+use Rattle.eris_drill_law.proofs.ReadLines.{settler_low}
 use Rattle.eris_drill_run_law.specs.Submissions.{asked_txn, drill_submissions, first_puts, first_turns, id_at, put_of}
 use Rattle.eris_drill_run_law.proofs.Carrying.{Carries, CarriesLines, carries_each, carries_none, carries_one, lines-append, lines_below, lines_then}
 use Rattle.eris_drill_run_law.proofs.Causes.{IsUp, key_known, keys_known, retry_free, submit_free, timer_free}
@@ -137,7 +137,7 @@ unfolding bank
 place_known replica low = grind (arith, nat_tests)
 
 replica_known : (shard replica : ℕ) → shard < 4 → replica < 3 → (knows_shard bank (record { 0 = shard }) && knows_replica bank (record { 0 = replica })) ≡ true
-replica_known shard replica few low = both _ _ (shard_known shard few) (place_known replica low)
+replica_known shard replica few low = and_from _ _ (shard_known shard few) (place_known replica low)
 
 module _ (crashed : List (ShardId × ReplicaId)) (done : Pairs) where
   abbrev Now : WorldState → Type 0
@@ -295,14 +295,6 @@ already_late turn half is = grind (arith, nat_tests)
 settler_up : (number turn : ℕ) → IsUp (down (nat_lt (number / 2) (suc turn))) (record { 0 = 0 }) (record { 0 = settler number turn })
 unfolding settler
 settler_up number turn = settler_by (nat_lt turn (number / 2)) (nat_lt (number / 2) (suc turn)) (still_early turn (number / 2)) (already_late turn (number / 2))
-
-settler_low : (number turn : ℕ) → settler number turn < 3
-unfolding settler
-settler_low number turn = by_test (nat_lt turn (number / 2))
-  where
-    by_test : (test : Bool) → cond test 0 1 < 3
-    by_test true = lit< tt
-    by_test false = lit< tt
 
 second_up : (late : Bool) → IsUp (down late) (record { 0 = 0 }) (record { 0 = 1 })
 second_up true = refl

@@ -10,13 +10,13 @@ use Rattle.eris_rules.specs.Happenings.{happens}
 use Rattle.eris_rules.specs.Refusals.{cause, limit_met, refusal}
 use Rattle.eris_rules.specs.Runs.{run, run_from, world_after}
 use Rattle.eris_rules.specs.Worlds.{WorldState, first_world, with_event}
+use Rattle.eris_rules.proofs.RunLaws.{none_run}
 use Rattle.eris_agreement.specs.Continuing.{Continues}
 use Rattle.eris_agreement.specs.NodeSteps.{event_of_step, step_of}
 use Rattle.eris_agreement.specs.WorldMoments.{moment_from}
 use Rattle.eris_agreement.proofs.Moments.{moment-cons, taken}
 use Rattle.eris_agreement.proofs.NodeLocality.{history_one}
 use Rattle.eris_course_law.specs.Accepted.{IsAccepted}
-use Rattle.eris_undisturbed_law.proofs.Growing.{none_run}
 use Rattle.eris_drill_run_law.specs.Takings.{AreTaken, after_all}
 
 module _ (config : ConfigValue) where

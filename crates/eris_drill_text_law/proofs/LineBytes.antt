@@ -1,11 +1,12 @@
 -- THE BYTES OF A DRILL'S LINES: none of them is LF or CR, so the script is cut just behind each line; and they are few.
-use Rattle.std.proofs.Common.{◌≡◌, ◌≤◌, ◌<◌, ◌+◌, ◌*◌, ◌/◌, ◌%◌, ◌==◌, ◌^◌, ◌&&◌, ℕ, Bool, true, false, cond, nat_le, nat_lt, List, [], ◌∷◌, ◌++◌, length, length-append, append-nil, append_assoc, refl, ap, sym, ◌∙◌, subst, arith, codes, lit<, lit≤, leb-true, le-leb}
+use Rattle.std.proofs.Common.{◌≡◌, ◌≤◌, ◌<◌, ◌+◌, ◌*◌, ◌/◌, ◌%◌, ◌==◌, ◌^◌, ◌&&◌, ℕ, Bool, true, false, cond, nat_le, nat_lt, List, [], ◌∷◌, ◌++◌, length, length-append, append_assoc, refl, ap, sym, ◌∙◌, subst, arith, codes, lit<, lit≤, leb-true, le-leb}
 use Rattle.std.proofs.lemmas.Bool.Decides.{nat_tests}
-use Rattle.std.proofs.lemmas.Fmt.{length-decimal-le}
+use Rattle.std.proofs.lemmas.Bool.{and_from}
 use Rattle.std.specs.Char.{is_digit}
 use Rattle.std.specs.List.{join_with_byte, list_all}
 use Rattle.eris_base.specs.Each.{Each}
 use Rattle.eris_base.proofs.Each.{Each-append}
+use Rattle.eris_base.proofs.Booleans.{left_of, right_of}
 use Rattle.eris_txn.specs.declared.op.Op.TheVariants.{Get, Put}
 use Rattle.eris_script.specs.declared.event.Event.{Event}
 use Rattle.eris_script.specs.declared.event.Event.TheVariants as event
@@ -15,7 +16,8 @@ use Rattle.eris_script.specs.Decimal.{decimal}
 use Rattle.eris_script.specs.EventText.{event_words}
 use Rattle.eris_script.specs.Words.{key_word, spaced}
 use Rattle.eris_script.proofs.DecimalLaws.{digits_of_decimal}
-use Rattle.eris_script.proofs.FormLaws.{both, left_of, right_of}
+use Rattle.eris_script.proofs.LineLemmas.{joined}
+use Rattle.eris_script.proofs.DigitLemmas.{few_digits}
 use Rattle.eris_drill.specs.declared.turn.Turn.{Turn}
 use Rattle.eris_drill.specs.Draws.{turn_at}
 use Rattle.eris_drill.specs.DrillLines.{account, asked, below, closing, drill_lines, noon, opening, opening_put, payee, payer, retry_lines, settler, teller, transfer, turn_lines, upkeep, weather}
@@ -38,7 +40,7 @@ pub record IsFine (line : Line) : Type 0 where
 
 ink-append : (xs ys : List ℕ) → are_ink xs ≡ true → are_ink ys ≡ true → are_ink (xs ++ ys) ≡ true
 ink-append [] ys left right = right
-ink-append (x ∷ xs) ys left right = both (is_ink x) (are_ink (xs ++ ys)) (left_of (is_ink x) (are_ink xs) left) (ink-append xs ys (right_of (is_ink x) (are_ink xs) left) right)
+ink-append (x ∷ xs) ys left right = and_from (is_ink x) (are_ink (xs ++ ys)) (left_of (is_ink x) (are_ink xs) left) (ink-append xs ys (right_of (is_ink x) (are_ink xs) left) right)
 
 -- ---- words, and the line that they make
 abbrev is_word : List ℕ → Bool
@@ -49,10 +51,6 @@ are_words words = list_all is_word words
 
 word_short : (word : List ℕ) → is_word word ≡ true → length word ≤ 23
 word_short word is = leb-true (length word) 23 (right_of (are_ink word) (nat_le (length word) 23) is)
-
-joined : (word : List ℕ) (words : List (List ℕ)) → join_with_byte 32 (word ∷ words) ≡ word ++ spaced words
-joined word [] = sym (append-nil word)
-joined word (next ∷ words) = ap (λ (rest : List ℕ). word ++ 32 ∷ rest) (joined next words)
 
 spaced_ink : (words : List (List ℕ)) → are_words words ≡ true → are_ink (spaced words) ≡ true
 spaced_ink [] all = refl
@@ -93,20 +91,17 @@ digit_ink byte is = grind (arith, nat_tests)
 digits_ink : (word : List ℕ) → list_all (λ byte. is_digit byte 10) word ≡ true → are_ink word ≡ true
 digits_ink [] all = refl
 digits_ink (byte ∷ word) all =
-    both (is_ink byte) (are_ink word) (digit_ink byte (left_of (is_digit byte 10) (list_all (λ other. is_digit other 10) word) all))
+    and_from (is_ink byte) (are_ink word) (digit_ink byte (left_of (is_digit byte 10) (list_all (λ other. is_digit other 10) word) all))
     (digits_ink word (right_of (is_digit byte 10) (list_all (λ other. is_digit other 10) word) all))
 
 number_ink : (n : ℕ) → n < 2 ^ 64 → are_ink (decimal n) ≡ true
 number_ink n small = digits_ink (decimal n) (digits_of_decimal n small)
 
-few_digits : (n : ℕ) → n < 2 ^ 64 → length (decimal n) ≤ 20
-few_digits n small = length-decimal-le 20 n (omega arith) (omega arith) small
-
 few_bytes : (n : ℕ) → n ≤ 20 → nat_le n 23 ≡ true
 few_bytes n low = le-leb n 23 (omega (arith, low))
 
 number_word : (n : ℕ) → n < 2 ^ 64 → is_word (decimal n) ≡ true
-number_word n small = both (are_ink (decimal n)) (nat_le (length (decimal n)) 23) (number_ink n small) (few_bytes (length (decimal n)) (few_digits n small))
+number_word n small = and_from (are_ink (decimal n)) (nat_le (length (decimal n)) 23) (number_ink n small) (few_bytes (length (decimal n)) (few_digits n small))
 
 -- ---- keys
 letter_ink : (number : ℕ) → is_ink (48 + number / 4) ≡ true
@@ -123,8 +118,8 @@ unfolding account
 account_word number =
     let name : List ℕ = 47 ∷ 97 ∷ (48 + number / 4) ∷ [] in
     ap is_word (append_assoc (decimal (number % 4)) (47 ∷ []) (97 ∷ (48 + number / 4) ∷ []))
-    ∙ both (are_ink (decimal (number % 4) ++ name)) (nat_le (length (decimal (number % 4) ++ name)) 23)
-    (ink-append (decimal (number % 4)) name (number_ink (number % 4) (shard_small number)) (both (is_ink (48 + number / 4)) true (letter_ink number) refl))
+    ∙ and_from (are_ink (decimal (number % 4) ++ name)) (nat_le (length (decimal (number % 4) ++ name)) 23)
+    (ink-append (decimal (number % 4)) name (number_ink (number % 4) (shard_small number)) (and_from (is_ink (48 + number / 4)) true (letter_ink number) refl))
     (key_bytes (decimal (number % 4)) name (few_digits (number % 4) (shard_small number)) refl)
 
 payer_word : (turn : Turn) → is_word (key_word (payer turn)) ≡ true
@@ -147,13 +142,13 @@ put_fine : (at : ℕ) → IsFine (One (opening_put at))
 unfolding opening_put
 put_fine at =
     event_fine (event.Submit (teller at) (Put (account at) 1000 ∷ [])) (codes "submit") (decimal (teller at).0 ∷ codes "put" ∷ key_word (account at) ∷ decimal 1000 ∷ []) refl
-    (both _ _ (teller_word at) (both _ _ (account_word at) (both _ _ (number_word 1000 (lit< tt)) refl))) (lit≤ tt)
+    (and_from _ _ (teller_word at) (and_from _ _ (account_word at) (and_from _ _ (number_word 1000 (lit< tt)) refl))) (lit≤ tt)
 
 reading_fine : (at : ℕ) (turn : Turn) → IsFine (One (event.Submit (teller at) (Get (payer turn) ∷ Get (payee turn) ∷ [])))
 reading_fine at turn =
     event_fine (event.Submit (teller at) (Get (payer turn) ∷ Get (payee turn) ∷ [])) (codes "submit")
     (decimal (teller at).0 ∷ codes "get" ∷ key_word (payer turn) ∷ codes ";" ∷ codes "get" ∷ key_word (payee turn) ∷ []) refl
-    (both _ _ (teller_word at) (both _ _ (payer_word turn) (both _ _ (payee_word turn) refl))) (lit≤ tt)
+    (and_from _ _ (teller_word at) (and_from _ _ (payer_word turn) (and_from _ _ (payee_word turn) refl))) (lit≤ tt)
 
 amount_small : (amount : ℕ) → amount ≤ 100 → amount < 2 ^ 64
 amount_small amount low = omega (arith, low)
@@ -169,7 +164,7 @@ transfer_fine at turn drawn =
     ∷ codes ";" ∷ codes "guard" ∷ key_word (payer turn) ∷ decimal turn.amount
     ∷ codes ";" ∷ codes "minus" ∷ key_word (payer turn) ∷ decimal turn.amount
     ∷ codes ";" ∷ codes "plus" ∷ key_word (payee turn) ∷ decimal turn.amount ∷ []) refl
-    (both _ _ (teller_word at) (both _ _ from (both _ _ to (both _ _ from (both _ _ amount (both _ _ from (both _ _ amount (both _ _ to (both _ _ amount refl)))))))))
+    (and_from _ _ (teller_word at) (and_from _ _ from (and_from _ _ to (and_from _ _ from (and_from _ _ amount (and_from _ _ from (and_from _ _ amount (and_from _ _ to (and_from _ _ amount refl)))))))))
     (lit≤ tt)
 
 asked_fine : (at : ℕ) (turn : Turn) → IsDrawn turn → IsFine (One (asked (teller at) turn))
@@ -198,7 +193,7 @@ lose_fine times small = record {
 
 pair_fine : (e : Event) (word : List ℕ) (first second : ℕ) → event_words 1 e ≡ word ∷ decimal first ∷ decimal second ∷ [] → is_word word ≡ true → first < 2 ^ 64 → second < 2 ^ 64 → IsFine (One e)
 pair_fine e word first second is known few low =
-    event_fine e word (decimal first ∷ decimal second ∷ []) is (both _ _ known (both _ _ (number_word first few) (both _ _ (number_word second low) refl))) (lit≤ tt)
+    event_fine e word (decimal first ∷ decimal second ∷ []) is (and_from _ _ known (and_from _ _ (number_word first few) (and_from _ _ (number_word second low) refl))) (lit≤ tt)
 
 -- ---- lines
 opening_fine : Each IsFine opening

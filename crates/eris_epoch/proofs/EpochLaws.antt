@@ -11,6 +11,7 @@ use Rattle.eris_base.specs.declared.ids.ShardId.{ShardId}
 use Rattle.eris_base.specs.ConfigLimits.{ConfigValue}
 use Rattle.eris_base.specs.Each.{Each}
 use Rattle.eris_base.specs.Quorums.{different_replicas}
+use Rattle.eris_base.proofs.Booleans.{or_none}
 use Rattle.eris_txn.specs.declared.packet.Packet.{Packet}
 use Rattle.eris_log.specs.PartValues.{PartValue}
 use Rattle.eris_log.specs.Places.{any_among}
@@ -69,13 +70,9 @@ module _ (packet : Packet) where
       or_assoc true b c = refl
       or_assoc false b c = refl
 
-  or_false : (b : Bool) → (b || false) ≡ b
-  or_false true = refl
-  or_false false = refl
-
   is_listed-one : (other : Packet) → is_listed (other ∷ []) packet ≡ same_packet packet other
   unfolding is_listed
-  is_listed-one other = or_false (same_packet packet other)
+  is_listed-one other = or_none (same_packet packet other)
 
   -- one more, which was listed before or not
   is_listed-with_new : (packets : List Packet) (other : Packet) → is_listed (with_new packets other) packet ≡ (is_listed packets packet || same_packet packet other)
@@ -93,7 +90,7 @@ module _ (packet : Packet) where
 
   is_listed-collected : (made packets : List Packet) → is_listed (fold (λ made other. with_new made other) made packets) packet ≡ (is_listed made packet || is_listed packets packet)
   unfolding is_listed
-  is_listed-collected made [] = sym (or_false (is_listed made packet))
+  is_listed-collected made [] = sym (or_none (is_listed made packet))
   is_listed-collected made (other ∷ packets) =
       is_listed-collected (with_new made other) packets ∙ ap (λ b. b || is_listed packets packet) (is_listed-with_new made other) ∙ or_right_first (is_listed made packet) _ _
     where

@@ -110,17 +110,17 @@ same_body-refl (Commit keys writes) =
     and_from _ _ (same_list-refl same_key same_key-true same_key-refl keys) (same_list-refl same_write same_write-true same_write-refl writes)
 same_body-refl (Abort keys) = same_list-refl same_key same_key-true same_key-refl keys
 
-same_place_on-true : (some other : ShardId × ℕ) → same_place_on some other ≡ true → some ≡ other
+pub same_place_on-true : (some other : ShardId × ℕ) → same_place_on some other ≡ true → some ≡ other
 unfolding same_place_on
 same_place_on-true some other h =
     let parts = and_parts _ _ h in
     λ i. (record { 0 = eqb-true some.0.0 other.0.0 parts.0 i }, eqb-true some.1 other.1 parts.1 i)
 
-same_place_on-refl : (place : ShardId × ℕ) → same_place_on place place ≡ true
+pub same_place_on-refl : (place : ShardId × ℕ) → same_place_on place place ≡ true
 unfolding same_place_on
 same_place_on-refl place = and_from _ _ (eq-eqb place.0.0 place.0.0 refl) (eq-eqb place.1 place.1 refl)
 
-same_stamp-true : (some other : Stamp) → same_stamp some other ≡ true → some ≡ other
+pub same_stamp-true : (some other : Stamp) → same_stamp some other ≡ true → some ≡ other
 unfolding same_stamp
 same_stamp-true some other h =
     let parts = and_parts _ _ h in
@@ -129,9 +129,14 @@ same_stamp-true some other h =
       places = same_list-true same_place_on same_place_on-true same_place_on-refl some.places other.places parts.1 i;
     }
 
-same_stamp-refl : (stamp : Stamp) → same_stamp stamp stamp ≡ true
+pub same_stamp-refl : (stamp : Stamp) → same_stamp stamp stamp ≡ true
 unfolding same_stamp
 same_stamp-refl stamp = and_from _ _ (eq-eqb stamp.epoch.0 stamp.epoch.0 refl) (same_list-refl same_place_on same_place_on-true same_place_on-refl stamp.places)
+
+pub same_stamp-from : (some other : Stamp) → some ≡ other → same_stamp some other ≡ true
+same_stamp-from some other equal = ap (same_stamp some) (sym equal) ∙ same_stamp-refl some
+
+pub ruleset same_stamps = (same_stamp-true, same_stamp-from)
 
 -- ---- packets
 pub same_packet-true : (some other : Packet) → same_packet some other ≡ true → some ≡ other

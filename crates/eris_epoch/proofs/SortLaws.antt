@@ -1,6 +1,6 @@
 -- Sorted lists: where an item goes, and what holds of the sorted list.
 use Rattle.std.proofs.Common.{◌≡◌, ◌≤◌, ◌<◌, ℕ, zero, suc, Bool, true, false, not, ◌||◌, cond, List, [], ◌∷◌, ◌++◌, length, get_or, take, drop, insert, refl, ap, sym, ◌∙◌, arith}
-use Rattle.std.proofs.lemmas.Bool.{cond-true, cond-false}
+use Rattle.std.proofs.lemmas.Bool.{cond-true, cond-false, not-true}
 use Rattle.std.proofs.lemmas.Cmp.{tied_itself, alike_right}
 use Rattle.std.specs.Cmp.{IsTotalOrder}
 use Rattle.std.specs.List.{AllWithin, list_any, fold}
@@ -9,18 +9,10 @@ use Rattle.std.specs.Ordering.{is_lt, ordering_reverse}
 use Rattle.std.specs.declared.cmp.Ordering.{Ordering}
 use Rattle.std.specs.declared.cmp.Ordering.TheVariants.{Less, Equal, Greater}
 use Rattle.eris_base.specs.Each.{Each}
+use Rattle.eris_base.proofs.Orders.{less_from}
 use Rattle.eris_log.specs.Sorted.{placed}
 use Rattle.eris_epoch.specs.ClosingSteps.{IsEnd}
 use Rattle.eris_epoch.specs.Sorting.{sorted, InOrder}
-
-less_from : (o : Ordering) → is_lt o ≡ true → o ≡ Less
-less_from Less h = refl
-less_from Equal h = cc
-less_from Greater h = cc
-
-not_false : (b : Bool) → not b ≡ true → b ≡ false
-not_false true h = sym h
-not_false false h = refl
 
 module _ {X K : Type 0} (key : X → K) {cmp : K → K → Ordering} (o : IsTotalOrder cmp) where
   -- the second isn't above the third, so what is below the second is below the third
@@ -62,7 +54,7 @@ module _ {X K : Type 0} (key : X → K) {cmp : K → K → Ordering} (o : IsTota
   partitioned_above items item h i j d le lt passes = by_test (is_lt (cmp (key item) (key (get_or items i d)))) refl
     where
       by_test : (t : Bool) → is_lt (cmp (key item) (key (get_or items i d))) ≡ t → not (is_lt (cmp (key item) (key (get_or items i d)))) ≡ true
-      by_test true less = let up = low_trans (key item) _ _ (not_above items i j d h le lt) less in let clash = sym (not_false _ passes) ∙ up in cc
+      by_test true less = let up = low_trans (key item) _ _ (not_above items i j d h le lt) less in let clash = sym (not-true _ passes) ∙ up in cc
       by_test false not_less = ap not not_less
 
   -- those below an item stand before the others
@@ -83,7 +75,7 @@ module _ {X K : Type 0} (key : X → K) {cmp : K → K → Ordering} (o : IsTota
   pub IsEnd-at : (items : List X) (item : X) (at : ℕ) → at ≤ length items
       → AllWithin (λ other. not (is_lt (cmp (key item) (key other))) ≡ true) items 0 at → AllWithin (λ other. not (is_lt (cmp (key item) (key other))) ≡ false) items at (length items)
       → IsEnd key cmp items item at
-  IsEnd-at items item at le before behind = record { in_range = le; above = above; goes = placed-at items item at le (λ i d low high. not_false _ (before i d low high)) above }
+  IsEnd-at items item at le before behind = record { in_range = le; above = above; goes = placed-at items item at le (λ i d low high. not-true _ (before i d low high)) above }
     where
       above : AllWithin (λ other. is_lt (cmp (key item) (key other)) ≡ true) items at (length items)
       above i d low high = is_true _ (behind i d low high)

@@ -1,6 +1,6 @@
 -- Sorting keeps the order of items that tie.
 use Rattle.std.proofs.Common.{◌≡◌, Bool, true, false, not, ◌&&◌, cond, List, [], ◌∷◌, ◌++◌, refl, ap, sym, ◌∙◌, append_assoc}
-use Rattle.std.proofs.lemmas.Bool.{and_parts, cond-false}
+use Rattle.std.proofs.lemmas.Bool.{and_parts, cond-false, not-true}
 use Rattle.std.proofs.lemmas.List.{append-nil}
 use Rattle.std.specs.Cmp.{IsTotalOrder}
 use Rattle.std.specs.List.{fold, filter}
@@ -12,10 +12,6 @@ use Rattle.eris_log.specs.Sorted.{placed}
 use Rattle.eris_epoch.specs.Sorting.{sorted, InOrder}
 use Rattle.eris_epoch.proofs.SortLaws.{low_trans, high_trans, InOrder-placed}
 
-not_false : (b : Bool) → not b ≡ true → b ≡ false
-not_false true h = sym h
-not_false false h = refl
-
 module _ {X K : Type 0} (key : X → K) {cmp : K → K → Ordering} (o : IsTotalOrder cmp) where
   abbrev tied : X → X → Bool
   tied x item = ties (λ x y. is_lt (cmp (key x) (key y))) x item
@@ -24,7 +20,7 @@ module _ {X K : Type 0} (key : X → K) {cmp : K → K → Ordering} (o : IsTota
   not_tied : (x item other : X) → tied x item ≡ true → is_lt (cmp (key item) (key other)) ≡ true → tied x other ≡ false
   not_tied x item other tie less =
       let parts = and_parts _ _ tie in
-      let above = high_trans key o (key other) (key x) (key item) (not_false _ parts.1) less in
+      let above = high_trans key o (key other) (key x) (key item) (not-true _ parts.1) less in
       ap (λ b. not b && not (is_lt (cmp (key other) (key x)))) above
 
   above_all : (item other : X) (items : List X) → is_lt (cmp (key item) (key other)) ≡ true → Each (λ one. is_lt (cmp (key one) (key other)) ≡ false) items

@@ -15,6 +15,7 @@ use Rattle.eris_base.specs.declared.stamp.Stamp.{Stamp}
 use Rattle.eris_base.specs.Each.{Each}
 use Rattle.eris_base.specs.StampPlaces.{is_number}
 use Rattle.eris_base.proofs.Each.{Each-weaker}
+use Rattle.eris_base.proofs.IdLaws.{epoch_equal}
 use Rattle.eris_txn.specs.declared.packet.Packet.{Packet}
 use Rattle.eris_log.specs.Entries.{length_of}
 use Rattle.eris_log.specs.Growth.{HasAll}
@@ -44,9 +45,6 @@ pub record IsMore (some more : KnownLists) : Type 0 where
   pub stamped : (packet : Packet) → In packet some.stamped → In packet more.stamped
   pub found : (packet : Packet) → In packet some.found → In packet more.found
   pub dropped : HasAll some.dropped more.dropped
-
-pub epoch_equal : (a b : Epoch) → a.0 ≡ b.0 → a ≡ b
-epoch_equal a b e = λ i. record { 0 = e i }
 
 -- a marked place is of the epoch
 pub marked-epoch : (epoch : Epoch) (places : List Place) (place : Place) → are_of_epoch epoch places ≡ true → contains_place places place ≡ true → place.epoch ≡ epoch

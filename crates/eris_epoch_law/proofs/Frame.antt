@@ -6,6 +6,7 @@ use Rattle.std.specs.Prelude.{slice_get, slice_set}
 use Rattle.eris_base.specs.declared.ids.ReplicaId.{ReplicaId}
 use Rattle.eris_base.specs.declared.ids.ShardId.{ShardId}
 use Rattle.eris_base.specs.declared.ids.View.{View}
+use Rattle.eris_base.proofs.IdLaws.{shard_equal}
 use Rattle.eris_rules.specs.ReplicaStates.{EpochReplica, fresh}
 use Rattle.eris_rules.specs.Addressees.{replica_count}
 use Rattle.eris_rules.specs.Worlds.{in_row, replica_at, with_in_row, with_replica}
@@ -17,22 +18,19 @@ pub read-some : (system : EpochSystem) (rows : List (List EpochReplica)) (shard 
 unfolding read
 read-some system rows shard replica state h = ap (or_fresh (fresh system.epoch shard)) h
 
-get-set : {X : Type 0} (xs : List X) (i j : ℕ) (old y : X) → slice_get xs i ≡ Some old → ((j ≡ i) × (slice_get (slice_set xs i y) j ≡ Some y)) ⊎ (slice_get (slice_set xs i y) j ≡ slice_get xs j)
+pub get-set : {X : Type 0} (xs : List X) (i j : ℕ) (old y : X) → slice_get xs i ≡ Some old → ((j ≡ i) × (slice_get (slice_set xs i y) j ≡ Some y)) ⊎ (slice_get (slice_set xs i y) j ≡ slice_get xs j)
 get-set [] i j old y h = absurd (cc)
 get-set (x ∷ xs) zero zero old y h = inl (refl, refl)
 get-set (x ∷ xs) zero (suc j) old y h = inr refl
 get-set (x ∷ xs) (suc i) zero old y h = inr refl
 get-set (x ∷ xs) (suc i) (suc j) old y h = elim (get-set xs i j old y h) [ inl e ↦ inl (ap suc e.0, e.1) | inr e ↦ inr e ]
 
-get-set_same : {X : Type 0} (xs : List X) (i : ℕ) (old y : X) → slice_get xs i ≡ Some old → slice_get (slice_set xs i y) i ≡ Some y
+pub get-set_same : {X : Type 0} (xs : List X) (i : ℕ) (old y : X) → slice_get xs i ≡ Some old → slice_get (slice_set xs i y) i ≡ Some y
 get-set_same [] i old y h = absurd (cc)
 get-set_same (x ∷ xs) zero old y h = refl
 get-set_same (x ∷ xs) (suc i) old y h = get-set_same xs i old y h
 
 -- names are their numbers
-pub shard_equal : (a b : ShardId) → a.0 ≡ b.0 → a ≡ b
-shard_equal a b e = λ i. record { 0 = e i }
-
 pub view_equal : (a b : View) → a.0 ≡ b.0 → a ≡ b
 view_equal a b e = λ i. record { 0 = e i }
 

@@ -7,7 +7,7 @@ use Rattle.eris_base.specs.declared.ids.ReplicaId.{ReplicaId}
 use Rattle.eris_base.specs.declared.ids.View.{View}
 use Rattle.eris_base.specs.Each.{Each}
 use Rattle.eris_base.specs.StampPlaces.{is_number}
-use Rattle.eris_base.proofs.Each.{Each-append}
+use Rattle.eris_base.proofs.Each.{Each-append, Each-any}
 use Rattle.eris_txn.specs.declared.answer.Answer.{Answer}
 use Rattle.eris_txn.specs.declared.packet.Packet.{Packet}
 use Rattle.eris_log.specs.declared.entry.Entry.{Entry}
@@ -31,7 +31,7 @@ use Rattle.eris_rules.specs.Views.{shows_part, starts_view, became_normal, tells
 use Rattle.eris_epoch_law.specs.Causes.{IsLater, AsksFor, Says, IsHome, Spoke}
 use Rattle.eris_epoch_law.specs.Members.{In}
 use Rattle.eris_epoch_law.proofs.Leaves.{IsNormal, IsChanging, IsCounting, Leaf, Nothing, Holds, SpeaksAgain, Gives, Drops, Finds, Loses, Shows, Starts, Waits, Tells, Takes, Acknowledges, Settles, Counts, Hears, Learns, Repeats, AsksHowFar, AsksGap, leaf}
-use Rattle.eris_epoch_law.proofs.Members.{OfMessage, Each-by_In, Each-send_each, Each-any, Each-map, Each-told}
+use Rattle.eris_epoch_law.proofs.Members.{OfMessage, Each-by_In, Each-send_each, Each-map, Each-told}
 
 -- ---- later states
 pub IsLater-refl : (state : EpochReplica) → IsLater state state

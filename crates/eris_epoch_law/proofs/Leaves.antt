@@ -8,6 +8,7 @@ use Rattle.eris_base.specs.declared.ids.ReplicaId.{ReplicaId}
 use Rattle.eris_base.specs.declared.ids.View.{View}
 use Rattle.eris_base.specs.Each.{Each}
 use Rattle.eris_base.specs.Quorums.{same_replica}
+use Rattle.eris_base.proofs.IdLaws.{shard_equal}
 use Rattle.eris_txn.specs.declared.packet.Packet.{Packet}
 use Rattle.eris_log.specs.Entries.{holder_of, covers}
 use Rattle.eris_log.specs.Held.{packet_at}
@@ -24,7 +25,7 @@ use Rattle.eris_rules.specs.Settling.{shared_number, tells_settled, settles, rai
 use Rattle.eris_rules.specs.Speaking.{speaks_for, has_gap, find_gap}
 use Rattle.eris_rules.specs.Views.{entered, shows_part, view_tally, starts_view, tests_view, enters_view, suspect_row, notes_part, tells_view, view_change_same, view_change_shown, view_change_row, begins_here, takes_view, start_view_row}
 use Rattle.eris_epoch_law.proofs.Members.{Each-by_In}
-use Rattle.eris_epoch_law.proofs.Frame.{shard_equal, view_equal}
+use Rattle.eris_epoch_law.proofs.Frame.{view_equal}
 use Rattle.eris_epoch_law.specs.Members.{In}
 
 abbrev pub IsNormal : EpochReplica → Type 0

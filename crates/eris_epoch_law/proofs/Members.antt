@@ -7,7 +7,7 @@ use Rattle.std.specs.Prelude.{find, slice_get}
 use Rattle.eris_base.specs.Each.{Each}
 use Rattle.eris_base.specs.declared.ids.Node.{Node}
 use Rattle.eris_base.specs.declared.ids.Place.{Place}
-use Rattle.eris_base.proofs.Each.{Each-append}
+use Rattle.eris_base.proofs.Each.{Each-append, Each-any}
 use Rattle.eris_log.specs.Places.{same_place, contains_place}
 use Rattle.eris_log.specs.Laws.Places.{same_place-true, same_place-refl}
 use Rattle.eris_rules.specs.EpochMessages.{EpochMessage, EpochSend, send_each}
@@ -114,10 +114,6 @@ pub Each-send_each : (P : EpochSend → Type 0) (nodes : List Node) (message : E
 Each-send_each P [] message h = tt
 Each-send_each P (node ∷ nodes) message h = (h.0, Each-send_each P nodes message h.1)
 
-pub Each-any : {X : Type 0} (P : X → Type 0) → ((x : X) → P x) → (xs : List X) → Each P xs
-Each-any P f [] = tt
-Each-any P f (x ∷ xs) = (f x, Each-any P f xs)
-
 pub Each-flat_map : {X Y : Type 0} (P : Y → Type 0) (f : X → List Y) (xs : List X) → Each (λ x. Each P (f x)) xs → Each P (flat_map f xs)
 Each-flat_map P f [] h = tt
 Each-flat_map P f (x ∷ xs) h = Each-append P (f x) (flat_map f xs) h.0 (Each-flat_map P f xs h.1)
@@ -129,3 +125,14 @@ Each-map P f (x ∷ xs) h = (h.0, Each-map P f xs h.1)
 -- the same message to each of some nodes
 pub Each-told : (P : EpochMessage → Type 0) (nodes : List Node) (message : EpochMessage) → P message → Each (OfMessage P) (send_each nodes message)
 Each-told P nodes message h = Each-send_each (OfMessage P) nodes message (Each-any (λ node. P message) (λ node. h) nodes)
+
+-- what passes a test is among what passes
+pub filtered-In : {X : Type 0} (test : X → Bool) (xs : List X) (x : X) → In x xs → test x ≡ true → In x (filter test xs)
+filtered-In test [] x i h = absurd i
+filtered-In test (y ∷ xs) x i h = by_test (test y) refl i (λ j. filtered-In test xs x j h)
+  where
+    by_test : (b : Bool) → test y ≡ b → (x ≡ y) ⊎ In x xs → (In x xs → In x (filter test xs)) → In x (cond b (y ∷ filter test xs) (filter test xs))
+    by_test true e (inl same) rest = inl same
+    by_test true e (inr j) rest = inr (rest j)
+    by_test false e (inl same) rest = let passes : test y ≡ true = ap test (sym same) ∙ h in absurd (cc)
+    by_test false e (inr j) rest = rest j

@@ -6,6 +6,8 @@ use Rattle.eris_base.specs.declared.ids.ReplicaId.{ReplicaId}
 use Rattle.eris_base.specs.declared.ids.ShardId.{ShardId}
 use Rattle.eris_base.specs.declared.ids.TxnId.{TxnId}
 use Rattle.eris_base.specs.Each.{Each}
+use Rattle.eris_base.proofs.Numbers.{last_or}
+use Rattle.eris_base.proofs.Each.{Each-any}
 use Rattle.eris_txn.specs.declared.body.Body.{Body}
 use Rattle.eris_txn.specs.declared.packet.Packet.{Packet}
 use Rattle.eris_txn.specs.Bodies.{participants_of}
@@ -19,7 +21,7 @@ use Rattle.eris_epoch_law.specs.Causes.{IsLater, Says, IsHome, Cause, ByReplica,
 use Rattle.eris_epoch_law.specs.EpochWorlds.{EpochSystem, EpochWorld, EpochEvent, member_of, first_epoch_world, packet_sends, after_stamping, after_replica, after_coordinator, moment}
 use Rattle.eris_epoch_law.specs.Members.{In}
 use Rattle.eris_epoch_law.specs.Reading.{read}
-use Rattle.eris_epoch_law.proofs.Members.{Each-at, Each-any, Each-flat_map, Each-told, In-append, In-left, In-right, OfMessage}
+use Rattle.eris_epoch_law.proofs.Members.{Each-at, Each-flat_map, Each-told, In-append, In-left, In-right, OfMessage}
 use Rattle.eris_epoch_law.proofs.Frame.{IsWritten, IsGrid, IsGrid-written, first_grid, read-some, written, written-same}
 use Rattle.eris_epoch_law.proofs.Grow.{IsLater-refl, IsLater-trans, IsRight, right_step}
 use Rattle.eris_epoch_law.proofs.Coords.{IsCoordLater-refl, IsCoordLater-trans, IsCoordRight, right_coord, right_nudge}
@@ -128,10 +130,6 @@ full_move system world _ (CoordMoves message i) full = full
 full_move system world _ NudgeMoves full = full
 full_move system world _ (Stamps asker id body fits free) full = full
 
--- a moment up to the next is no later than this one, or is the next
-pub last : (j k : ℕ) → j ≤ suc k → (j ≤ k) ⊎ (j ≡ suc k)
-last j k h = grind arith
-
 module _ (system : EpochSystem) (events : List EpochEvent) where
   abbrev pub at : ℕ → EpochWorld
   at k = moment system events k
@@ -147,7 +145,7 @@ module _ (system : EpochSystem) (events : List EpochEvent) where
   -- GROWTH: nothing is undone between two moments
   pub later : (j k : ℕ) → j ≤ k → IsWorldLater system (at j) (at k)
   later j zero h = let e : 0 ≡ j = omega arith in subst (λ n. IsWorldLater system (at n) (at 0)) e (IsWorldLater-refl system _)
-  later j (suc k) h = elim (last j k h) [
+  later j (suc k) h = elim (last_or j k h) [
     | inl le ↦ IsWorldLater-trans system (at j) (at k) (at (suc k)) (later j k le) (next k).later
     | inr e ↦ subst (λ n. IsWorldLater system (at n) (at (suc k))) (sym e) (IsWorldLater-refl system _)
   ]

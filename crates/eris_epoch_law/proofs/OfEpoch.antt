@@ -6,13 +6,13 @@ use Rattle.std.proofs.lemmas.Bool.{and_parts, eqb-true}
 use Rattle.eris_base.specs.declared.ids.Epoch.{Epoch}
 use Rattle.eris_base.specs.declared.ids.Place.{Place}
 use Rattle.eris_base.specs.Each.{Each}
+use Rattle.eris_base.proofs.IdLaws.{epoch_equal}
 use Rattle.eris_log.specs.Places.{are_of_epoch}
 use Rattle.eris_rules.specs.EpochMessages.{EpochMessage, EpochSend, Stamped, Instructs, Notifies, Exchanges, Responds, Instruction, Request, Found, Dropped, Notice, Find, Has, TempDropped, Exchange, ViewChange, StartView, SyncAsk, Ack, Settled, Response, Vouch, Reply, Late}
 use Rattle.eris_rules.specs.Outer.{IsOf}
 use Rattle.eris_epoch_law.specs.EpochWorlds.{EpochSystem, EpochEvent, moment}
 use Rattle.eris_epoch_law.specs.Fine.{KnownLists, known_in, IsFineMessage}
 use Rattle.eris_epoch_law.specs.Members.{In}
-use Rattle.eris_epoch_law.proofs.FineParts.{epoch_equal}
 use Rattle.eris_epoch_law.proofs.FineWorlds.{all_fine}
 use Rattle.eris_epoch_law.proofs.Members.{Each-at}
 

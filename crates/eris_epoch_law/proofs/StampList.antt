@@ -1,8 +1,7 @@
 -- The list of an epoch's sequencer at each moment: numbers 1, 2, 3, .. on each shard, each naming one packet.
 use Rattle.std.proofs.Common.{◌≡◌, ◌⊎◌, inl, inr, ℕ, zero, suc, ◌+◌, ◌≤◌, ◌<◌, List, [], ◌∷◌, ◌++◌, map, replicate, Bool, true, false, ◌||◌, ◌==◌, nat_lt, Some, None, refl, sym, ap, ◌∙◌, subst, arith, cond}
-use Rattle.std.specs.Prelude.{slice_index, find}
+use Rattle.std.specs.Prelude.{slice_index}
 use Rattle.std.specs.List.{list_all}
-use Rattle.std.specs.Option.{option_map}
 use Rattle.std.proofs.lemmas.Bool.{and_parts, ltb-true, eqb-true, cases_lt}
 use Rattle.std.proofs.lemmas.List.{length-replicate}
 use Rattle.eris_base.specs.declared.ids.ClientId.{ClientId}
@@ -19,30 +18,19 @@ use Rattle.eris_sequencer.specs.Sequencers.{new_stamping, are_shards_of, is_in_p
 use Rattle.eris_sequencer.specs.Stamps.{new_sequencer, counter_of, next_places, with_numbers, has_counters, next_stamp, next_packet, after_stamp, stamped_next, AreRaised}
 use Rattle.eris_sequencer.proofs.SequencerLaws.{some_shard}
 use Rattle.eris_sequencer.proofs.StampLaws.{AreRaised-next, next_places-stamp}
+use Rattle.eris_sequencer.proofs.NumberLaws.{number_in-next}
 use Rattle.eris_epoch_law.specs.EpochWorlds.{EpochSystem, EpochWorld, EpochEvent, first_epoch_world, after_stamping, after_replica, after_coordinator, moment}
 use Rattle.eris_epoch_law.specs.Members.{In}
 use Rattle.eris_epoch_law.specs.Stamped.{HasNumber, IsStampedIn, IsBelow, Rise, IsStampingOf}
 use Rattle.eris_epoch_law.proofs.Members.{In-append, In-left, In-right}
 use Rattle.eris_epoch_law.proofs.Moves.{Move, Rests, ReplicaMoves, CoordMoves, NudgeMoves, Stamps, moved}
 
--- the number that the next stamp gives a shard
-number-next : (counters : List ℕ) (shards : List ShardId) (shard : ShardId) → number_in (next_places counters shards) shard ≡ cond (has_shard shards shard) (Some (counter_of counters shard + 1)) None
-unfolding next_places counter_of
-number-next counters [] shard = refl
-number-next counters (one ∷ shards) shard = by_test (one.0 == shard.0) refl (number-next counters shards shard)
-  where
-    by_test : (b : Bool) → (one.0 == shard.0) ≡ b → number_in (next_places counters shards) shard ≡ cond (has_shard shards shard) (Some (slice_index counters shard.0 + 1)) None
-        → option_map (λ (place : ShardId × ℕ). place.1) (cond b (Some (one, slice_index counters one.0 + 1)) (find (λ place. place.0.0 == shard.0) (next_places counters shards)))
-        ≡ cond (b || has_shard shards shard) (Some (slice_index counters shard.0 + 1)) None
-    by_test true e h = ap (λ n. Some (slice_index counters n + 1)) (eqb-true one.0 shard.0 e)
-    by_test false e h = h
-
 record IsNext (counters : List ℕ) (shards : List ShardId) (shard : ShardId) (number : ℕ) : Type 0 where
   is : number ≡ counter_of counters shard + 1
   named : has_shard shards shard ≡ true
 
 is_next : (counters : List ℕ) (shards : List ShardId) (shard : ShardId) (number : ℕ) → number_in (next_places counters shards) shard ≡ Some number → IsNext counters shards shard number
-is_next counters shards shard number h = by_test (has_shard shards shard) refl (sym (number-next counters shards shard) ∙ h)
+is_next counters shards shard number h = by_test (has_shard shards shard) refl (sym (number_in-next counters shards shard) ∙ h)
   where
     by_test : (b : Bool) → has_shard shards shard ≡ b → cond b (Some (counter_of counters shard + 1)) None ≡ Some number → IsNext counters shards shard number
     by_test true e k = record { is = (let same : counter_of counters shard + 1 ≡ number = cc in sym same); named = e }
@@ -66,7 +54,7 @@ Rise-more shard [] packet below rise = (tt, tt)
 Rise-more shard (one ∷ packets) packet below rise =
     (Each-append (IsBelow shard one) packets (packet ∷ []) rise.0 (below one (inl refl), tt), Rise-more shard packets packet (λ other i. below other (inr i)) rise.1)
 
-zero_counter : (n i : ℕ) → slice_index (replicate n 0) i ≡ 0
+pub zero_counter : (n i : ℕ) → slice_index (replicate n 0) i ≡ 0
 zero_counter zero i = refl
 zero_counter (suc n) zero = refl
 zero_counter (suc n) (suc i) = zero_counter n i
@@ -150,7 +138,7 @@ module _ (system : EpochSystem) (stamping : Stamping) (asker : ClientId) (id : T
       by_test true e lt =
           let k = raised_by shard true e in
           let is : counter_of before shard + 1 ≡ number = omega arith in
-          (made, In-right made stamping.stamped (made ∷ []) (inl refl), number-next before shards shard ∙ ap (λ b. cond b (Some (counter_of before shard + 1)) None) e ∙ ap Some is)
+          (made, In-right made stamping.stamped (made ∷ []) (inl refl), number_in-next before shards shard ∙ ap (λ b. cond b (Some (counter_of before shard + 1)) None) e ∙ ap Some is)
       by_test false e lt = let k = raised_by shard false e in absurd (omega arith)
 
   one_of : (some other : Packet) (shard : ShardId) (number : ℕ) → In some stamping.stamped ⊎ (some ≡ made) → In other stamping.stamped ⊎ (other ≡ made) → HasNumber some shard number → HasNumber other shard number → some ≡ other

@@ -1,9 +1,9 @@
 -- What a line of a script submits, operations or a plan, is in the ranges of the messages that it leads to. Used where
 -- an event happens.
-use Rattle.std.proofs.Common.{◌≡◌, ◌<◌, ◌≤◌, ℕ, ◌-◌, ◌^◌, ◌&&◌, ◌||◌, ◌==◌, Bool, true, false, cond, nat_lt, nat_le, List, [], ◌∷◌, ◌++◌, length, Some, None, refl, arith}
+use Rattle.std.proofs.Common.{◌≡◌, ◌≤◌, ℕ, ◌-◌, ◌^◌, ◌||◌, ◌==◌, Bool, true, false, cond, nat_lt, nat_le, List, [], ◌∷◌, ◌++◌, length, Some, None, refl, arith}
 use Rattle.std.specs.Prelude.{is_none}
 use Rattle.std.specs.List.{list_all}
-use Rattle.std.proofs.lemmas.Bool.{and_parts, and_from, leb-true, le-leb, lt-ltb, ltb-true, ltb-false, eqb-true, eqb-false, or_parts}
+use Rattle.std.proofs.lemmas.Bool.{and_parts, and_from, leb-true, lt-ltb, ltb-true, ltb-false, eqb-false, or_parts}
 use Rattle.eris_base.specs.declared.ids.ShardId.{ShardId}
 use Rattle.eris_base.specs.Each.{Each}
 use Rattle.eris_txn.specs.declared.key.Key.{Key}
@@ -15,55 +15,26 @@ use Rattle.eris_txn.specs.declared.plan.How.TheVariants as hows
 use Rattle.eris_txn.specs.declared.plan.Setting.{Setting}
 use Rattle.eris_txn.specs.declared.plan.PlanFault.TheVariants.{TooMany, Empty, RepeatedKey, UnlockedKey}
 use Rattle.eris_txn.specs.declared.txn.Txn.TheVariants as txns
-use Rattle.eris_txn.specs.Names.{is_name_byte}
 use Rattle.eris_txn.specs.PlanFaults.{all_locked, plan_fault, repeats, sets_twice}
 use Rattle.eris_txn.specs.PlanValues.{PlanValue}
 use Rattle.eris_txn.proofs.PlanSizes.{length-settings}
-use Rattle.eris_msg.specs.declared.fault.DecodeReason.TheVariants.{Range}
-use Rattle.eris_msg.specs.Codecs.{checked, items_fit}
+use Rattle.eris_msg.specs.Codecs.{items_fit}
 use Rattle.eris_msg.specs.Fields as f
+use Rattle.eris_msg.proofs.RangeLaws.{count_fits}
+use Rattle.eris_msg.proofs.NameBytes.{name_fits}
 use Rattle.eris_client.specs.ClientRanges.{HowFits, SettingFits, TxnFits}
 use Rattle.eris_script.specs.Fields as w
-use Rattle.eris_script.specs.OpForms.{are_ops, fits_op, most}
+use Rattle.eris_script.specs.OpForms.{are_ops, fits_op}
 use Rattle.eris_script.specs.PlanForms.{fits_setting, is_plan, number_of}
 
 -- ---- keys and values
-small_byte : (a b c : Bool) (n : ℕ) → (a ≡ true → n < 256) → (b ≡ true → n < 256) → (c ≡ true → n < 256) → (a || b || c) ≡ true → n < 256
-small_byte true b c n h k l e = h refl
-small_byte false true c n h k l e = k refl
-small_byte false false c n h k l e = l e
-
-name_byte : (n : ℕ) → is_name_byte n ≡ true → n < 256
-name_byte n h =
-    small_byte (nat_le 97 n && nat_le n 122) (nat_le 48 n && nat_le n 57) (n == 95) n
-    (λ e. omega (arith, leb-true n 122 (and_parts _ _ e).1)) (λ e. omega (arith, leb-true n 57 (and_parts _ _ e).1)) (λ e. omega (arith, eqb-true n 95 e)) h
-
-name_bytes : (before bytes : List ℕ) → list_all is_name_byte bytes ≡ true → items_fit (λ _. checked is_name_byte Range f.byte) before bytes ≡ true
-unfolding f.byte
-name_bytes before [] h = refl
-name_bytes before (n ∷ bytes) h =
-    let parts = and_parts _ _ h in
-    and_from _ _ (and_from _ _ (lt-ltb n (2 ^ 8) (name_byte n parts.0)) parts.0) (name_bytes (before ++ n ∷ []) bytes parts.1)
-
-pub from_to_fits : (least most n : ℕ) → most < 256 → least ≤ n → n ≤ most → (f.from_to least most).fits n ≡ true
-unfolding f.from_to f.byte
-from_to_fits least most n small low high =
-    and_from _ _ (lt-ltb n (2 ^ 8) (omega (arith, small, high))) (and_from _ _ (le-leb least n low) (le-leb n most high))
-
-name_fits : (bytes : List ℕ) → (nat_lt 0 (length bytes) && nat_le (length bytes) 16 && list_all is_name_byte bytes) ≡ true → f.name.fits bytes ≡ true
-unfolding f.name
-name_fits bytes h =
-    let parts = and_parts _ _ h in
-    let sizes = and_parts _ _ parts.0 in
-    and_from _ _ (from_to_fits 1 16 (length bytes) (omega arith) (omega (arith, ltb-true 0 (length bytes) sizes.0)) (leb-true _ _ sizes.1)) (name_bytes [] bytes parts.1)
-
 shard_limit : (test : Bool) (n : ℕ) → nat_le n (cond test 15 63) ≡ true → n ≤ 63
 shard_limit true n h = omega (arith, leb-true n 15 h)
 shard_limit false n h = leb-true n 63 h
 
 pub shard_fits : (shard : ShardId) → shard.0 ≤ 63 → f.shard.fits shard ≡ true
 unfolding f.shard
-shard_fits shard le = from_to_fits 0 63 shard.0 (omega arith) (omega arith) le
+shard_fits shard le = count_fits 0 63 shard.0 (omega arith) (omega arith) le
 
 key_fits : (version : ℕ) (key : Key) → (w.key version).fits key ≡ true → f.key.fits key ≡ true
 unfolding w.key f.key
@@ -102,7 +73,7 @@ unfolding f.body f.body_fits f.ops
 ops_are_in_range version ops h =
     let parts = and_parts _ _ h in
     let sizes = and_parts _ _ parts.0 in
-    and_from _ _ (from_to_fits 1 32 (length ops) (omega arith) (omega (arith, ltb-true 0 (length ops) sizes.0)) (most_limit (version == 1) (length ops) sizes.1))
+    and_from _ _ (count_fits 1 32 (length ops) (omega arith) (omega (arith, ltb-true 0 (length ops) sizes.0)) (most_limit (version == 1) (length ops) sizes.1))
     (ops_fit version [] ops parts.1)
 
 -- ---- plans
@@ -162,7 +133,7 @@ plan_is_in_range version plan h =
     let fine = no_fault plan.keys plan.guards plan.settings a.1 in
     let settings = length-settings plan.settings plan.keys fine.once (and_parts _ _ fine.locked).1 in
     record {
-      keys = and_from _ _ (from_to_fits 1 32 (length plan.keys) (omega arith) fine.some fine.few) (keys_fit version [] plan.keys e.0);
+      keys = and_from _ _ (count_fits 1 32 (length plan.keys) (omega arith) fine.some fine.few) (keys_fit version [] plan.keys e.0);
       few = omega (arith, settings, fine.few);
       settings = settings_fit version plan.settings d.1;
     }

@@ -23,7 +23,7 @@ use Rattle.eris_rules.specs.declared.transaction.Vote.{Vote}
 use Rattle.eris_rules.specs.ClientStates.{ClientIdentity}
 use Rattle.eris_rules.specs.WorldOrders.{order, order_on}
 use Rattle.eris_serial.specs.Evidence.{SaidOn}
-use Rattle.eris_serial.proofs.SaidByLogs.{said_by_log}
+use Rattle.eris_serial.proofs.SaidByLogs.{said_by_log, on_shard-append}
 use Rattle.eris_epoch_law.proofs.Frame.{replica_equal}
 use Rattle.eris_agreement.specs.EpochRuns.{servers_at}
 use Rattle.eris_agreement.specs.WorldMoments.{world_at}
@@ -33,7 +33,7 @@ use Rattle.eris_client_law.specs.Counts.{ByLate, ByVotes, CameFor, CountedByVote
 use Rattle.eris_client_law.proofs.Origins.{reply_came, voter_known}
 use Rattle.eris_evidence_law.specs.Fronts.{IsSaidFrom}
 use Rattle.eris_evidence_law.specs.Heard.{AllWasSent, ByReply, ByVouch, WasAnswered, WasSent, WasSpoken}
-use Rattle.eris_evidence_law.proofs.Prompts.{on_shard-append, on_shard-same}
+use Rattle.eris_evidence_law.proofs.Prompts.{on_shard-same}
 use Rattle.eris_evidence_law.proofs.SaidFronts.{late_front, replies_front}
 
 -- what is said from a moment on is said over the order at every later one

@@ -8,7 +8,7 @@ use Rattle.eris_base.specs.declared.ids.ReplicaId.{ReplicaId}
 use Rattle.eris_base.specs.declared.ids.ShardId.{ShardId}
 use Rattle.eris_base.specs.ConfigLimits.{ConfigValue}
 use Rattle.eris_base.specs.Each.{Each}
-use Rattle.eris_base.proofs.Each.{Each-weaker}
+use Rattle.eris_base.proofs.Each.{Each-weaker, Each-any}
 use Rattle.eris_msg.specs.declared.message.Message.{Message}
 use Rattle.eris_msg.specs.declared.outgoing.Outgoing.{Outgoing}
 use Rattle.eris_script.specs.declared.event.Event.{Event}
@@ -26,7 +26,7 @@ use Rattle.eris_rules.specs.Worlds.{first_world, replica_at}
 use Rattle.eris_epoch_law.specs.Causes.{CoordSays}
 use Rattle.eris_epoch_law.specs.Members.{In}
 use Rattle.eris_epoch_law.proofs.Coords.{right_coord, right_nudge}
-use Rattle.eris_epoch_law.proofs.Members.{OfMessage, Each-at, Each-any, Each-flat_map, In-append}
+use Rattle.eris_epoch_law.proofs.Members.{OfMessage, Each-at, Each-flat_map, In-append}
 use Rattle.eris_agreement.specs.Alone.{state_of}
 use Rattle.eris_agreement.specs.EpochRuns.{servers_at}
 use Rattle.eris_agreement.specs.Servers.{Servers}

@@ -11,6 +11,7 @@ use Rattle.eris_base.specs.declared.ids.Phase.{Phase}
 use Rattle.eris_base.specs.declared.ids.ShardId.{ShardId}
 use Rattle.eris_base.specs.declared.ids.TxnId.{TxnId}
 use Rattle.eris_base.specs.ConfigLimits.{ConfigValue}
+use Rattle.eris_base.proofs.IdLaws.{epoch_equal}
 use Rattle.eris_txn.specs.declared.answer.Answer.{Answer}
 use Rattle.eris_txn.specs.declared.packet.Packet.{Packet}
 use Rattle.eris_locks.specs.Law.{HasPacket}
@@ -25,14 +26,13 @@ use Rattle.eris_serial.specs.Times.{IsOwn}
 use Rattle.eris_serial.proofs.CountedStands.{own_from_shard}
 use Rattle.eris_serial.proofs.StampedLater.{behind_old, own_packet, own_there}
 use Rattle.eris_epoch_law.specs.Members.{In}
-use Rattle.eris_epoch_law.proofs.Members.{Each-by_In, In-append, In-filtered, In-left, In-right}
+use Rattle.eris_epoch_law.proofs.Members.{Each-by_In, In-append, In-filtered, In-left, In-right, filtered-In}
 use Rattle.eris_agreement.specs.Alone.{stamping_of, stamping_or}
 use Rattle.eris_agreement.specs.EpochRuns.{servers_at}
 use Rattle.eris_agreement.specs.Servers.{Servers}
 use Rattle.eris_agreement.specs.WorldMoments.{world_at}
 use Rattle.eris_agreement.proofs.Growth.{current_rises}
-use Rattle.eris_agreement.proofs.ReplicaLeaves.{epoch_equal}
-use Rattle.eris_order_law.proofs.LaterStamps.{filtered-In, stamped_by}
+use Rattle.eris_order_law.proofs.LaterStamps.{stamped_by}
 use Rattle.eris_order_law.proofs.OrderFronts.{survive_below, survive_cases}
 use Rattle.eris_order_law.proofs.OrderMembers.{list-In, stamping_right}
 use Rattle.eris_order_law.proofs.SpokenClosed.{closed_below_current}

@@ -23,6 +23,7 @@ use Rattle.eris_lock_law.proofs.Runs.{dones_of_prefix}
 use Rattle.eris_order.specs.Orders.{packets_on}
 use Rattle.eris_rules.specs.ReplicaAnswers.{answer_after, is_late_above, late_answers, prompt_answer, store_after, store_answers}
 use Rattle.eris_serial.specs.Evidence.{SaidOn}
+use Rattle.eris_serial.proofs.SaidByLogs.{said_before, on_shard-append}
 use Rattle.eris_epoch_law.specs.Members.{In}
 use Rattle.eris_epoch_law.proofs.Members.{In-filtered}
 
@@ -100,11 +101,6 @@ module _ (state : StoreState) (packet : ShardPacket) where
   own_by (Abort keys) = own_concludes Aborted []
 
 -- ---- over a log
-said_left : (id : TxnId) (phase : Phase) (answer : Answer) (dones others : List Done) → Said id phase answer dones → Said id phase answer (dones ++ others)
-said_left id phase answer [] others said = absurd said
-said_left id phase answer (given ∷ dones) others (inl here) = inl here
-said_left id phase answer (given ∷ dones) others (inr there) = inr (said_left id phase answer dones others there)
-
 said_right : (id : TxnId) (phase : Phase) (answer : Answer) (dones others : List Done) → Said id phase answer others → Said id phase answer (dones ++ others)
 said_right id phase answer [] others said = said
 said_right id phase answer (given ∷ dones) others said = inr (said_right id phase answer dones others said)
@@ -132,15 +128,6 @@ on_shard-same shard (packet ∷ packets) = by_test (names_shard shard packet) re
     by_test true e rest = ap (λ list. cut shard packet ∷ list) rest ∙ sym (on_shard-named shard packet (packets_on shard packets) e)
     by_test false e rest = rest
 
-pub on_shard-append : (shard : ShardId) (xs ys : List Packet) → on_shard shard (xs ++ ys) ≡ on_shard shard xs ++ on_shard shard ys
-on_shard-append shard [] ys = refl
-on_shard-append shard (x ∷ xs) ys = by_test (names_shard shard x) (on_shard-append shard xs ys)
-  where
-    by_test : (named : Bool) → on_shard shard (xs ++ ys) ≡ on_shard shard xs ++ on_shard shard ys
-        → elim named [ true ↦ cut shard x ∷ on_shard shard (xs ++ ys) | false ↦ on_shard shard (xs ++ ys) ] ≡ elim named [ true ↦ cut shard x ∷ on_shard shard xs | false ↦ on_shard shard xs ] ++ on_shard shard ys
-    by_test true rest = ap (λ list. cut shard x ∷ list) rest
-    by_test false rest = rest
-
 -- WHAT A PACKET IS ANSWERED at its own place is said over the log that ends with it
 pub said_prompt : (shard : ShardId) (log : List Packet) (packet : Packet) (answer : Answer) → names_shard shard packet ≡ true → answer_after shard log packet ≡ Some answer
     → SaidOn shard packet.id (phase_of packet.body) answer (log ++ packet ∷ [])
@@ -149,7 +136,7 @@ said_prompt shard log packet answer named h =
     let state : StoreState = run_state empty (on_shard shard log) in
     let own = own_by state (cut shard packet) (cut_body shard packet.body) answer h in
     let own_phase : Said packet.id (phase_of packet.body) answer (step state (cut shard packet)).dones = subst (λ phase. Said packet.id phase answer (step state (cut shard packet)).dones) (same_phase shard packet.body) own in
-    let last : Said packet.id (phase_of packet.body) answer (run_dones state (cut shard packet ∷ [])) = said_left packet.id (phase_of packet.body) answer (step state (cut shard packet)).dones [] own_phase in
+    let last : Said packet.id (phase_of packet.body) answer (run_dones state (cut shard packet ∷ [])) = said_before packet.id (phase_of packet.body) answer (step state (cut shard packet)).dones [] own_phase in
     let all : Said packet.id (phase_of packet.body) answer (run_dones empty (on_shard shard log ++ cut shard packet ∷ [])) =
     subst (Said packet.id (phase_of packet.body) answer) (sym (dones_of_prefix (on_shard shard log) (cut shard packet ∷ []) empty)) (said_right packet.id (phase_of packet.body) answer (run_dones empty (on_shard shard log)) _ last) in
     subst (λ (list : List ShardPacket). Said packet.id (phase_of packet.body) answer (run_dones empty list))

@@ -4,7 +4,7 @@ use Rattle.std.proofs.Common.{ℕ, zero, suc, ◌+◌, ◌-◌, ◌≤◌, List,
 use Rattle.std.proofs.lemmas.Bool.{cond_both}
 use Rattle.eris_base.specs.Each.{Each}
 use Rattle.eris_base.specs.StampPlaces.{is_number}
-use Rattle.eris_base.proofs.Each.{Each-append}
+use Rattle.eris_base.proofs.Each.{Each-append, Each-any}
 use Rattle.eris_txn.specs.declared.answer.Answer.{Answer}
 use Rattle.eris_txn.specs.declared.packet.Packet.{Packet}
 use Rattle.eris_log.specs.Entries.{entry_of, length_of}
@@ -21,7 +21,7 @@ use Rattle.eris_rules.specs.Speaking.{replies_with, speaks_of, speaks_of_held, s
 use Rattle.eris_rules.specs.Views.{shows_part, starts_view, became_normal, tells_view, takes_view}
 use Rattle.eris_epoch_law.proofs.Grow.{NoGap-within}
 use Rattle.eris_epoch_law.proofs.Leaves.{Leaf, Nothing, Holds, SpeaksAgain, Gives, Drops, Finds, Loses, Shows, Starts, Waits, Tells, Takes, Acknowledges, Settles, Counts, Hears, Learns, Repeats, AsksHowFar, AsksGap, leaf}
-use Rattle.eris_epoch_law.proofs.Members.{OfMessage, Each-any, Each-map, Each-told}
+use Rattle.eris_epoch_law.proofs.Members.{OfMessage, Each-map, Each-told}
 
 -- of a late answer: there is no gap up to the number
 abbrev pub IsWholeResponse : PartValue → ℕ → Response → Type 0

@@ -4,7 +4,7 @@
 
 mod pending;
 
-pub use pending::Pending;
+pub use pending::{Pending, is_aborted};
 
 #[cfg(test)]
 mod tests;

@@ -82,7 +82,8 @@ fn some_aborted(answers: &[Answer]) -> bool
     answers.iter().any(|answer| is_aborted(answer))
 }
 
-fn is_aborted(answer: &Answer) -> bool
+/// Whether the answer is that of an abort. It takes no memory.
+pub fn is_aborted(answer: &Answer) -> bool
     ensures { result ≡ is_aborted answer.now }
 {
     matches!(answer, Answer::Aborted)

@@ -20,7 +20,7 @@ use Rattle.eris_rules.specs.ClientStates.{ClientIdentity}
 use Rattle.eris_rules.specs.WorldOrders.{order}
 use Rattle.eris_serial.specs.Evidence.{AnsweredFirst, IsIn, SubmitsWell, SubmittedLater}
 use Rattle.eris_serial.specs.Transactions.{CanRun, takes_part}
-use Rattle.eris_serial.proofs.CountedStands.{some_shard, prelim_is_own}
+use Rattle.eris_serial.proofs.CountedStands.{some_shard, prelim_is_own, whole_is_own}
 use Rattle.eris_serial.proofs.Runnable.{Each-in, Each-of}
 use Rattle.eris_agreement.specs.WorldMoments.{world_at}
 use Rattle.eris_client_law.specs.ClientRuns.{ClientInput, history_to, step_at}
@@ -38,9 +38,6 @@ use Rattle.eris_evidence_law.specs.Fronts.{IsSaidFrom, IsUnstamped}
 use Rattle.eris_evidence_law.proofs.OldPackets.{behind}
 use Rattle.eris_order_law.proofs.OrderMembers.{In-list}
 use Rattle.eris_good_law.proofs.Counted.{counted_from}
-
-whole_is_own : Phase.Whole ≡ Phase.Conclude → ⊥
-whole_is_own is = cc
 
 -- some shard takes part in what can be run
 some_part : (txn : Txn) → CanRun txn → (shard : ShardId) × (takes_part shard txn ≡ true)

@@ -22,9 +22,6 @@ pub list_any-map : {X Y : Type 0} (p : Y → Bool) (f : X → Y) (xs : List X) �
 list_any-map p f [] = refl
 list_any-map p f (x ∷ xs) = ap (λ rest. p (f x) || rest) (list_any-map p f xs)
 
-same_shard : (some other : ShardId) → (some.0 == other.0) ≡ true → some ≡ other
-same_shard some other h = ap (λ (n : ℕ). record { 0 = n }) (eqb-true some.0 other.0 h)
-
 -- shards above some shard have none that isn't above it
 none_below : (before : ShardId) (shards : List ShardId) (one : ShardId) → ascends_from (Some before) shards ≡ true → one.0 ≤ before.0 → has_shard shards one ≡ false
 none_below before [] one h low = refl
@@ -104,7 +101,7 @@ same_itself [] = refl
 same_itself (shard ∷ shards) = and_from (shard.0 == shard.0) (same_shards shards shards) (eq-eqb shard.0 shard.0 refl) (same_itself shards)
 
 -- a test that each shard passes, and the shards that are there
-each_passes : (test : ShardId → Bool) (shards : List ShardId) → list_all test shards ≡ true → (one : ShardId) → has_shard shards one ≡ true → test one ≡ true
+pub each_passes : (test : ShardId → Bool) (shards : List ShardId) → list_all test shards ≡ true → (one : ShardId) → has_shard shards one ≡ true → test one ≡ true
 each_passes test [] h one is = absurd (both_ways _ refl is)
 each_passes test (shard ∷ shards) h one is =
     let parts = and_parts (test shard) (list_all test shards) h in
@@ -113,7 +110,7 @@ each_passes test (shard ∷ shards) h one is =
       | inr later ↦ each_passes test shards parts.1 one later
     ]
 
-all_pass : (test : ShardId → Bool) (shards : List ShardId) → ((one : ShardId) → has_shard shards one ≡ true → test one ≡ true) → list_all test shards ≡ true
+pub all_pass : (test : ShardId → Bool) (shards : List ShardId) → ((one : ShardId) → has_shard shards one ≡ true → test one ≡ true) → list_all test shards ≡ true
 all_pass test [] h = refl
 all_pass test (shard ∷ shards) h =
     and_from (test shard) (list_all test shards)

@@ -1,2 +1,3 @@
 pub mod ExactShards
 pub mod MessageRangeLaws
+pub mod SendLaws

@@ -1,21 +1,18 @@
 -- A message that has a spelling has its fields in their ranges; and by what a part and the marks in it are in
 -- range. The nodes use this for what comes to them and what they send.
-use Rattle.std.proofs.Common.{◌≡◌, ℕ, ◌-◌, ◌<◌, ◌^◌, ◌&&◌, ◌||◌, ◌==◌, nat_lt, Bool, true, false, cond, Option, None, Some, List, [], ◌∷◌, ◌++◌, length, slice_get, map, refl, ap, sym, ◌∙◌, subst, arith}
+use Rattle.std.proofs.Common.{◌≡◌, ℕ, ◌-◌, ◌<◌, ◌^◌, ◌&&◌, ◌==◌, nat_lt, true, Option, Some, List, [], ◌∷◌, ◌++◌, length, map, refl, ap, sym, ◌∙◌, subst}
 use Rattle.std.specs.List.{list_all, AllByRecursion}
 use Rattle.std.specs.Option.{option_map}
-use Rattle.std.specs.Ordering.{nat_cmp, ordering_then, is_lt}
-use Rattle.std.specs.declared.cmp.Ordering.{Ordering}
-use Rattle.std.specs.declared.cmp.Ordering.TheVariants.{Less, Equal, Greater}
-use Rattle.std.proofs.lemmas.Bool.{and_parts, and_from, eqb-true, lt-ltb}
-use Rattle.std.proofs.lemmas.Cmp.{nat_cmp_total, tied_itself}
-use Rattle.std.proofs.lemmas.List.{length-append}
+use Rattle.std.specs.Ordering.{nat_cmp}
+use Rattle.std.proofs.lemmas.Bool.{and_from, eqb-true}
 use Rattle.eris_base.specs.declared.ids.Epoch.{Epoch}
 use Rattle.eris_base.specs.declared.ids.Place.{Place}
 use Rattle.eris_base.specs.declared.ids.ShardId.{ShardId}
+use Rattle.eris_base.proofs.Booleans.{left_of, right_of}
 use Rattle.eris_txn.specs.declared.packet.Packet.{Packet}
 use Rattle.eris_log.specs.PartFacts.{AreHeld, AreMarks, IsPart}
 use Rattle.eris_log.specs.PartValues.{PartValue}
-use Rattle.eris_log.specs.Places.{place_cmp, are_of_epoch}
+use Rattle.eris_log.specs.Places.{place_cmp, are_of_epoch, pair_of, place_at}
 use Rattle.eris_log.specs.Sorted.{is_above, ascends_from}
 use Rattle.eris_msg.specs.Codecs.{last_of, items_fit}
 use Rattle.eris_msg.specs.declared.message.Message.{Message}
@@ -24,23 +21,10 @@ use Rattle.eris_msg.specs.Parts as p
 use Rattle.eris_msg.specs.Ranges.{PlaceInRange, HeldInRange}
 use Rattle.eris_msg.specs.Spellings.{message_fits, part_fits}
 use Rattle.eris_msg.proofs.MessageFits as m
-use Rattle.eris_msg.proofs.RangeLaws.{part_parts, part_fits-from}
+use Rattle.eris_msg.proofs.RangeLaws.{part_parts, part_fits-from, word_fits, mark_items}
+use Rattle.eris_msg.proofs.LastItems.{last_added}
+use Rattle.eris_msg.proofs.PartOrder.{above_in_epoch, above_number}
 use Rattle.eris_in_place.specs.MessageRanges.{PacketsFit, PairsFit, PartFits, MessageFits, IsCounted}
-
-left_of : (a b : Bool) → (a && b) ≡ true → a ≡ true
-left_of a b h = (and_parts a b h).0
-
-right_of : (a b : Bool) → (a && b) ≡ true → b ≡ true
-right_of a b h = (and_parts a b h).1
-
-at_end : {X : Type 0} (xs : List X) (x : X) → slice_get (xs ++ x ∷ []) (length xs) ≡ Some x
-at_end [] x = refl
-at_end (y ∷ xs) x = at_end xs x
-
-last_added : {X : Type 0} (xs : List X) (x : X) → last_of (xs ++ x ∷ []) ≡ Some x
-last_added xs x =
-    let e : length (xs ++ x ∷ []) - 1 ≡ length xs = omega (arith, length-append xs (x ∷ [])) in
-    ap (λ n. slice_get (xs ++ x ∷ []) n) e ∙ at_end xs x
 
 -- ---- packets
 each_packet : (before packets : List Packet) → items_fit (λ _. f.packet) before packets ≡ true → PacketsFit packets
@@ -62,76 +46,33 @@ held_packets_fit (pair ∷ held) h = (h.0.1, held_packets_fit held h.1)
 abbrev at_epoch_number : Place → ℕ → Place
 at_epoch_number place n = record { epoch = record { 0 = n }; shard = place.shard; number = place.number }
 
-here_again : (epoch : Epoch) (place : Place) → place.epoch.0 ≡ epoch.0 → p.place_at epoch (p.pair_of place) ≡ place
+here_again : (epoch : Epoch) (place : Place) → place.epoch.0 ≡ epoch.0 → place_at epoch (pair_of place) ≡ place
 here_again epoch place same = ap (λ (n : ℕ). at_epoch_number place n) (sym same)
 
 last_place : (epoch : Epoch) (before : List (ShardId × ℕ)) (place : Place) → place.epoch.0 ≡ epoch.0
-    → option_map (p.place_at epoch) (last_of (before ++ p.pair_of place ∷ [])) ≡ Some place
+    → option_map (place_at epoch) (last_of (before ++ pair_of place ∷ [])) ≡ Some place
 last_place epoch before place same =
     let some_place : Place → Option Place = λ one. Some one in
-    ap (λ (z : Option (ShardId × ℕ)). option_map (p.place_at epoch) z) (last_added before (p.pair_of place)) ∙ ap some_place (here_again epoch place same)
-
-after_tests : (t u v w : Bool) → is_lt (ordering_then (cond t Less (cond u Equal Greater)) (cond v Less (cond w Equal Greater))) ≡ true → (t || (u && v)) ≡ true
-after_tests true u v w h = refl
-after_tests false true true w h = refl
-after_tests false true false true h = absurd cc
-after_tests false true false false h = absurd cc
-after_tests false false v w h = absurd cc
-
-after_above : (epoch : Epoch) (before : Option (ShardId × ℕ)) (place : Place) → place.epoch.0 ≡ epoch.0
-    → is_above place_cmp (option_map (p.place_at epoch) before) place ≡ true → p.is_after before (p.pair_of place) ≡ true
-after_above epoch None place same h = refl
-after_above epoch (Some before) place same h =
-    let tie : nat_cmp epoch.0 place.epoch.0 ≡ Equal = ap (λ (n : ℕ). nat_cmp epoch.0 n) same ∙ tied_itself nat_cmp_total epoch.0 in
-    after_tests (nat_lt before.0.0 place.shard.0) (before.0.0 == place.shard.0) (nat_lt before.1 place.number) (before.1 == place.number)
-    (subst (λ (o : Ordering). is_lt (ordering_then o (ordering_then (nat_cmp before.0.0 place.shard.0) (nat_cmp before.1 place.number))) ≡ true) tie h)
-
-marks_from : (epoch : Epoch) (before : List (ShardId × ℕ)) (places : List Place)
-    → ascends_from (λ place. place) place_cmp (option_map (p.place_at epoch) (last_of before)) places ≡ true → are_of_epoch epoch places ≡ true
-    → AllByRecursion PlaceInRange places → items_fit p.listed_place before (p.pairs_of places) ≡ true
-unfolding p.listed_place p.pairs_of
-marks_from epoch before [] h o k = refl
-marks_from epoch before (place ∷ places) h o k =
-    let above = left_of (is_above place_cmp (option_map (p.place_at epoch) (last_of before)) place) (ascends_from (λ place. place) place_cmp (Some place) places) h in
-    let more = right_of (is_above place_cmp (option_map (p.place_at epoch) (last_of before)) place) (ascends_from (λ place. place) place_cmp (Some place) places) h in
-    let same : place.epoch.0 ≡ epoch.0 = eqb-true _ _ (left_of (place.epoch.0 == epoch.0) (are_of_epoch epoch places) o) in
-    let last = last_place epoch before place same in
-    let next : ascends_from (λ place. place) place_cmp (option_map (p.place_at epoch) (last_of (before ++ p.pair_of place ∷ []))) places ≡ true =
-    subst (λ (z : Option Place). ascends_from (λ place. place) place_cmp z places ≡ true) (sym last) more in
-    and_from _ _ (and_from _ _ (and_from _ _ k.0.0 k.0.1) (after_above epoch (last_of before) place same above))
-    (marks_from epoch (before ++ p.pair_of place ∷ []) places next (right_of (place.epoch.0 == epoch.0) (are_of_epoch epoch places) o) k.1)
+    ap (λ (z : Option (ShardId × ℕ)). option_map (place_at epoch) z) (last_added before (pair_of place)) ∙ ap some_place (here_again epoch place same)
 
 -- the marks of an epoch that a replica tells of
 pub marks_fit : (epoch : Epoch) (places : List Place) → AreMarks epoch places → AllByRecursion PlaceInRange places → PairsFit (map (λ place. (place.shard, place.number)) places)
 unfolding p.pairs_of
-marks_fit epoch places marks k = marks_from epoch [] places marks.ascend marks.of_epoch k
+marks_fit epoch places marks k = mark_items epoch [] places marks.ascend marks.of_epoch k
 
 -- and back
-by_tests : (t u v : Bool) (other : Ordering) → (t || (u && v)) ≡ true → is_lt (ordering_then (cond t Less (cond u Equal Greater)) (cond v Less other)) ≡ true
-by_tests true u v other h = refl
-by_tests false true true other h = refl
-by_tests false true false other h = absurd cc
-by_tests false false v other h = absurd cc
-
-above_in_epoch : (epoch : Epoch) (before : Option (ShardId × ℕ)) (pair : ShardId × ℕ) → p.is_after before pair ≡ true
-    → is_above place_cmp (option_map (p.place_at epoch) before) (p.place_at epoch pair) ≡ true
-above_in_epoch epoch None pair h = refl
-above_in_epoch epoch (Some before) pair h =
-    let less = by_tests (nat_lt before.0.0 pair.0.0) (before.0.0 == pair.0.0) (nat_lt before.1 pair.1) (cond (before.1 == pair.1) Equal Greater) h in
-    subst (λ (o : Ordering). is_lt (ordering_then o (ordering_then (nat_cmp before.0.0 pair.0.0) (nat_cmp before.1 pair.1))) ≡ true) (sym (tied_itself nat_cmp_total epoch.0)) less
-
 marks_ascend : (epoch : Epoch) (before : List (ShardId × ℕ)) (places : List Place) → items_fit p.listed_place before (p.pairs_of places) ≡ true
-    → are_of_epoch epoch places ≡ true → ascends_from (λ place. place) place_cmp (option_map (p.place_at epoch) (last_of before)) places ≡ true
+    → are_of_epoch epoch places ≡ true → ascends_from (λ place. place) place_cmp (option_map (place_at epoch) (last_of before)) places ≡ true
 unfolding p.listed_place p.pairs_of
 marks_ascend epoch before [] h o = refl
 marks_ascend epoch before (place ∷ places) h o =
-    let pair = p.pair_of place in
+    let pair = pair_of place in
     let rest = items_fit p.listed_place (before ++ pair ∷ []) (p.pairs_of places) in
     let one = left_of ((f.shard.fits place.shard && f.number.fits place.number) && p.is_after (last_of before) pair) rest h in
     let more = right_of ((f.shard.fits place.shard && f.number.fits place.number) && p.is_after (last_of before) pair) rest h in
     let same : place.epoch.0 ≡ epoch.0 = eqb-true _ _ (left_of (place.epoch.0 == epoch.0) (are_of_epoch epoch places) o) in
     let after = right_of (f.shard.fits place.shard && f.number.fits place.number) (p.is_after (last_of before) pair) one in
-    let above = subst (λ (z : Place). is_above place_cmp (option_map (p.place_at epoch) (last_of before)) z ≡ true) (here_again epoch place same) (above_in_epoch epoch (last_of before) pair after) in
+    let above = subst (λ (z : Place). is_above place_cmp (option_map (place_at epoch) (last_of before)) z ≡ true) (here_again epoch place same) (above_in_epoch epoch (last_of before) pair after) in
     let next = marks_ascend epoch (before ++ pair ∷ []) places more (right_of (place.epoch.0 == epoch.0) (are_of_epoch epoch places) o) in
     and_from _ _ above (subst (λ (z : Option Place). ascends_from (λ place. place) place_cmp z places ≡ true) (last_place epoch before place same) next)
 
@@ -141,14 +82,6 @@ are_marks epoch places of_epoch h =
     record { ascend = marks_ascend epoch [] places (right_of _ (items_fit p.listed_place [] (p.pairs_of places)) h) of_epoch; of_epoch = of_epoch }
 
 -- ---- the packets that a part holds
-less_by_test : (t u : Bool) → t ≡ true → is_lt (cond t Less (cond u Equal Greater)) ≡ true
-less_by_test true u h = refl
-less_by_test false u h = absurd cc
-
-above_number : (before : Option (ℕ × Packet)) (n : ℕ) → p.is_above before n ≡ true → is_above nat_cmp (option_map (λ pair. pair.0) before) n ≡ true
-above_number None n h = refl
-above_number (Some before) n h = less_by_test (nat_lt before.0 n) (before.0 == n) h
-
 record HeldFrom (before held : List (ℕ × Packet)) : Type 0 where
   ascend : ascends_from (λ pair. pair.0) nat_cmp (option_map (λ pair. pair.0) (last_of before)) held ≡ true
   from_one : list_all (λ pair. nat_lt 0 pair.0) held ≡ true
@@ -229,10 +162,6 @@ message_is_in_range (Message.StartEpoch epoch shard packets) h =
 message_is_in_range message h = h
 
 -- ---- and back
-word_fits : (n : ℕ) → n < 2 ^ 32 → f.word.fits n ≡ true
-unfolding f.word
-word_fits n h = lt-ltb n (2 ^ 32) h
-
 packets_from : (before packets : List Packet) → PacketsFit packets → items_fit (λ _. f.packet) before packets ≡ true
 packets_from before [] h = refl
 packets_from before (packet ∷ packets) h = and_from _ _ h.0 (packets_from (before ++ packet ∷ []) packets h.1)

@@ -3,11 +3,10 @@ ghost use Rattle.std.specs.Prelude.{◌≡◌, ◌&&◌, map};
 ghost use Rattle.std.specs.List.{list_all};
 ghost use Rattle.eris_rules.specs.Known.{knows_shard, knows_replica, knows_client, knows_id, knows_pairs, knows_stamp, knows_places, knows_keys, knows_writes, knows_body, knows_packet, knows_packets, knows_held, knows_part, knows_all};
 
-use crate::keyed::Keyed;
 use eris_base::{ClientId, Config, Place, ReplicaId, ShardId, Stamp, TxnId};
 use eris_log::Part;
 use eris_msg::Message;
-use eris_txn::{Body, Packet, Write};
+use eris_txn::{Body, OfKey, Packet, Write};
 
 /// Whether each shard, replica and client that the message names is of the config.
 #[tactic(auto, unfolding(eris_rules::specs::Known::knows_all))]
@@ -126,13 +125,13 @@ fn knows_places(config: &Config, places: &[Place]) -> bool
     places.iter().all(|place| knows_shard(config, place.shard))
 }
 
-fn knows_keys<T: Keyed>(config: &Config, items: &[T]) -> bool
+fn knows_keys<T: OfKey>(config: &Config, items: &[T]) -> bool
     ensures { result ≡ knows_keys config.now (map T.key_in items.now) }
 {
     are_known(config, items)
 }
 
-fn are_known<T: Keyed>(config: &Config, items: &[T]) -> bool
+fn are_known<T: OfKey>(config: &Config, items: &[T]) -> bool
     ensures { result ≡ list_all (λ item. knows_shard config.now (T.key_in item).shard) items.now }
 {
     items.iter().all(|item| knows_shard(config, item.shard()))

@@ -4,7 +4,6 @@
 #![tactic(auto)]
 
 mod in_place;
-mod keyed;
 mod kinds;
 mod known;
 mod logs;

@@ -5,7 +5,8 @@ ghost use Rattle.eris_log.specs.Places.{place_cmp};
 ghost use Rattle.eris_log.specs.Sorted.{is_above};
 ghost use Rattle.eris_rules.specs.InPlace.{all_name_shard, ascend_on, all_below, has_right_log};
 
-use eris_base::{Epoch, Place, ShardId, Stamp};
+use eris_base::{Epoch, Place, ShardId};
+use eris_locks::place_on;
 use eris_msg::Message;
 use eris_txn::Packet;
 
@@ -68,16 +69,6 @@ fn is_above(before: Option<Place>, place: Place) -> bool
     match before {
         Some(before) => before.cmp(&place).is_lt(),
         None => true,
-    }
-}
-
-fn place_on(shard: ShardId, stamp: &Stamp) -> Place
-    ensures { result ≡ place_on shard stamp.now }
-{
-    Place {
-        epoch: stamp.epoch,
-        shard,
-        number: stamp.number_of(shard).unwrap_or(0),
     }
 }
 

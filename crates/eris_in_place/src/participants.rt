@@ -5,10 +5,9 @@ ghost use Rattle.eris_base.specs.Places.{number_in};
 ghost use Rattle.eris_txn.specs.Bodies.{any_on, shards_of};
 ghost use Rattle.eris_rules.specs.InPlace.{names_exactly, names_participants, all_name_participants, packets_in};
 
-use crate::keyed::Keyed;
 use eris_base::{ShardId, Stamp};
 use eris_msg::Message;
-use eris_txn::{Body, Packet};
+use eris_txn::{Body, OfKey, Packet};
 
 /// Whether the stamp of each packet in the message names exactly the participants of the packet's body.
 #[tactic(auto, unfolding(eris_rules::specs::InPlace::all_name_participants))]
@@ -59,39 +58,39 @@ fn names_participants(packet: &Packet) -> bool
 /// Whether the stamp names exactly the shards of these keys. Both are known to ascend, so it is enough that
 /// each shard of the one stands in the other.
 #[tactic(auto, using(crate::proofs::ExactShards::exactly))]
-fn names_exactly<T: Keyed>(stamp: &Stamp, items: &[T]) -> bool
+fn names_exactly<T: OfKey>(stamp: &Stamp, items: &[T]) -> bool
     ensures { result ≡ names_exactly stamp.now (shards_of (map T.key_in items.now)) }
 {
     have_keys(stamp.places(), items) && are_named(stamp, items)
 }
 
 /// Whether each shard of the stamp has a key.
-fn have_keys<T: Keyed>(places: &[(ShardId, u32)], items: &[T]) -> bool
+fn have_keys<T: OfKey>(places: &[(ShardId, u32)], items: &[T]) -> bool
     ensures { result ≡ list_all (λ place. any_on (map T.key_in items.now) place.0) places.now }
 {
     places.iter().all(|place| has_key(items, place.0))
 }
 
-fn has_key<T: Keyed>(items: &[T], shard: ShardId) -> bool
+fn has_key<T: OfKey>(items: &[T], shard: ShardId) -> bool
     ensures { result ≡ any_on (map T.key_in items.now) shard }
 {
     any_is_on(items, shard)
 }
 
-fn any_is_on<T: Keyed>(items: &[T], shard: ShardId) -> bool
+fn any_is_on<T: OfKey>(items: &[T], shard: ShardId) -> bool
     ensures { result ≡ list_any (λ item. (T.key_in item).shard.0 == shard.0) items.now }
 {
     items.iter().any(|item| item.shard() == shard)
 }
 
 /// Whether each key is of a shard of the stamp.
-fn are_named<T: Keyed>(stamp: &Stamp, items: &[T]) -> bool
+fn are_named<T: OfKey>(stamp: &Stamp, items: &[T]) -> bool
     ensures { result ≡ list_all (λ key. is_some (number_in stamp.now.places key.shard)) (map T.key_in items.now) }
 {
     each_is_named(stamp, items)
 }
 
-fn each_is_named<T: Keyed>(stamp: &Stamp, items: &[T]) -> bool
+fn each_is_named<T: OfKey>(stamp: &Stamp, items: &[T]) -> bool
     ensures { result ≡ list_all (λ item. is_some (number_in stamp.now.places (T.key_in item).shard)) items.now }
 {
     items.iter().all(|item| is_named(stamp, item.shard()))

@@ -11,6 +11,7 @@ use Rattle.eris_base.specs.declared.ids.ShardId.{ShardId}
 use Rattle.eris_base.specs.declared.ids.View.{View}
 use Rattle.eris_base.specs.Places.{number_in}
 use Rattle.eris_base.specs.StampPlaces.{has_place, is_number}
+use Rattle.eris_base.proofs.IdLaws.{shard_equal}
 use Rattle.eris_txn.specs.declared.packet.Packet.{Packet}
 use Rattle.eris_log.specs.Laws.Entries.{any_among-none, any_among-some}
 use Rattle.eris_log.specs.Laws.Places.{contains_place-places_of, same_place-true}
@@ -29,7 +30,7 @@ use Rattle.eris_key_law.specs.Quorums.{DroppedThen, IsAgreed}
 use Rattle.eris_epoch_law.specs.Reading.{replica_then}
 use Rattle.eris_epoch_law.specs.Stamped.{HasNumber, IsStampedIn}
 use Rattle.eris_epoch_law.proofs.Coords.{told, IsByQuorums, IsWithPacket, notice_in, right_coord}
-use Rattle.eris_epoch_law.proofs.Frame.{shard_equal, replica_equal, view_equal}
+use Rattle.eris_epoch_law.proofs.Frame.{replica_equal, view_equal}
 use Rattle.eris_epoch_law.proofs.FineWorlds.{all_fine}
 use Rattle.eris_epoch_law.proofs.Members.{Each-at, In-left, any_witness}
 use Rattle.eris_epoch_law.proofs.Moments.{later, cause}

@@ -1,60 +1,19 @@
--- All definitions that an example computes with.
+-- All definitions that an example of one epoch computes with.
 use Rattle.std.specs.Prelude.{ℕ}
-use Rattle.eris_drop.specs.Notes as drop_notes
-use Rattle.eris_drop.specs.Requests as drop_requests
 use Rattle.eris_epoch_law.specs.EpochWorlds as epoch_worlds
 use Rattle.eris_epoch_law.specs.Reading as reading
-use Rattle.eris_locks.specs.Locks as locks_locks
-use Rattle.eris_log.specs.Entries as log_entries
-use Rattle.eris_log.specs.Held as log_held
-use Rattle.eris_log.specs.Parts as log_parts
-use Rattle.eris_log.specs.Places as log_places
-use Rattle.eris_log.specs.Sorted as log_sorted
-use Rattle.eris_rules.specs.Addressees as rules_addressees
-use Rattle.eris_rules.specs.CoordStates as rules_coord_states
-use Rattle.eris_rules.specs.EpochCoords as rules_epoch_coords
-use Rattle.eris_rules.specs.EpochReplicas as rules_epoch_replicas
-use Rattle.eris_rules.specs.ReplicaAnswers as rules_replica_answers
-use Rattle.eris_rules.specs.ReplicaStates as rules_replica_states
-use Rattle.eris_rules.specs.Settling as rules_settling
-use Rattle.eris_rules.specs.Speaking as rules_speaking
-use Rattle.eris_rules.specs.Views as rules_views
-use Rattle.eris_rules.specs.Worlds as rules_worlds
-use Rattle.eris_sequencer.specs.Sequencers as sequencer_sequencers
-use Rattle.eris_sequencer.specs.Stamps as sequencer_stamps
+use Rattle.eris_rules.proofs.Opened.{of_drop, of_epoch_rules, of_locks, of_log, of_stamps, of_view}
 use Rattle.eris_view.specs.AckCells as view_ack_cells
-use Rattle.eris_view.specs.AckTallies as view_ack_tallies
 use Rattle.eris_view.specs.Holders as view_holders
-use Rattle.eris_view.specs.ViewTallies as view_view_tallies
 
-unfoldable pub of_log : ℕ
-unfolding log_entries.all_found log_entries.is_dropped log_entries.is_txn log_entries.entry_of log_entries.is_gap log_entries.reach log_entries.length_of log_entries.is_covered log_entries.covers log_entries.holder_of log_held.packet_at log_held.with_packet log_held.with_packets log_parts.empty_part log_parts.hold_at log_parts.hold log_parts.mark_temp log_parts.mark_found log_parts.mark_dropped log_parts.merge log_places.same_place log_places.contains_place log_places.with_place log_places.with_places log_places.places_of log_places.any_among log_sorted.item_at log_sorted.placed log_sorted.with_item log_sorted.union log_sorted.items_from log_sorted.head_at
-of_log = 0
-
-unfoldable pub of_locks : ℕ
-unfolding locks_locks.conflict
-of_locks = 0
-
-unfoldable pub of_drop : ℕ
-unfolding drop_notes.same_note drop_notes.has_note drop_notes.note drop_notes.forget drop_notes.is_noted_in drop_notes.is_drop_quorum drop_notes.has_drop_quorum drop_notes.decided drop_requests.is_known drop_requests.answer_by drop_requests.answer_request
-of_drop = 0
-
-unfoldable pub of_view : ℕ
-unfolding view_ack_cells.acks_from view_ack_cells.offered view_ack_tallies.no_acks view_ack_tallies.with_ack view_ack_tallies.note_length view_ack_tallies.how_many_have view_ack_tallies.quorum_has view_ack_tallies.greatest view_ack_tallies.settled view_holders.holders view_view_tallies.no_parts view_view_tallies.with_part view_view_tallies.note_part view_view_tallies.is_ready view_view_tallies.union_of
-of_view = 0
-
-unfoldable pub of_sequencer : ℕ
-unfolding sequencer_sequencers.new_stamping sequencer_sequencers.first_stampings sequencer_sequencers.newest_of sequencer_sequencers.replace sequencer_sequencers.packets_of sequencer_sequencers.stamped_in sequencer_sequencers.are_shards_of sequencer_sequencers.is_in_place sequencer_sequencers.stamp_at sequencer_sequencers.no_stamp sequencer_sequencers.stamp_by sequencer_sequencers.stamp sequencer_stamps.new_sequencer sequencer_stamps.counter_of sequencer_stamps.next_places sequencer_stamps.with_numbers sequencer_stamps.is_full sequencer_stamps.has_counters sequencer_stamps.next_stamp sequencer_stamps.next_packet sequencer_stamps.after_stamp sequencer_stamps.stamped_next
-of_sequencer = 0
-
-unfoldable pub of_rules : ℕ
-unfolding rules_addressees.shard_replicas rules_addressees.all_replicas rules_addressees.other_replicas rules_coord_states.nothing_asked rules_epoch_coords.finder_of rules_epoch_coords.tells_found rules_epoch_coords.tells_dropped rules_epoch_coords.asks_all rules_epoch_coords.asks_new rules_epoch_coords.finds_lost rules_epoch_coords.find_row rules_epoch_coords.all_hear_dropped rules_epoch_coords.keeps_found rules_epoch_coords.drops_rest rules_epoch_coords.has_wanted rules_epoch_coords.has_row rules_epoch_coords.drops_place rules_epoch_coords.drops_decided rules_epoch_coords.notes_drop rules_epoch_coords.temp_dropped_row rules_epoch_coords.nudge_row rules_epoch_replicas.has_spoken_for rules_epoch_replicas.speaks_again rules_epoch_replicas.holds_packet rules_epoch_replicas.txn_at rules_epoch_replicas.txn_row rules_epoch_replicas.drops_for_a_time rules_epoch_replicas.request_row rules_epoch_replicas.found_row rules_epoch_replicas.dropped_row rules_epoch_replicas.probe_normal rules_epoch_replicas.probe_changing rules_epoch_replicas.probe_row rules_epoch_replicas.epoch_step rules_replica_answers.open_at rules_replica_answers.open_upto rules_replica_answers.log_upto rules_replica_answers.store_after rules_replica_answers.store_answers rules_replica_answers.prompt_answer rules_replica_answers.answer_after rules_replica_answers.is_late_above rules_replica_answers.late_answers rules_replica_states.fresh rules_settling.shared_number rules_settling.tells_late rules_settling.tells_settled rules_settling.settles rules_settling.raises rules_settling.enters_above rules_settling.acknowledges rules_settling.sync_ask_same rules_settling.sync_ask_row rules_settling.notes_ack rules_settling.ack_row rules_settling.mark_all_dropped rules_settling.learns rules_settling.hears_settled rules_settling.settled_same rules_settling.settled_row rules_settling.repeats_settled rules_settling.raises_or_repeats rules_settling.also_asks rules_settling.sync_row rules_speaking.speaks_of rules_speaking.speaks_for rules_speaking.speaks_at rules_speaking.speaks_after rules_speaking.speaks_on rules_speaking.holds_from rules_speaking.has_gap rules_speaking.asks_gap rules_speaking.asks_once rules_speaking.tail rules_views.entered rules_views.became_normal rules_views.shows_part rules_views.starts_view rules_views.tests_view rules_views.enters_view rules_views.suspect_row rules_views.notes_part rules_views.tells_view rules_views.view_change_same rules_views.view_change_shown rules_views.view_change_row rules_views.takes_view rules_views.start_view_row rules_worlds.replica_at rules_worlds.with_replica
-of_rules = 0
+unfoldable pub of_holders : ℕ
+unfolding view_ack_cells.acks_from view_ack_cells.offered view_holders.holders
+of_holders = 0
 
 unfoldable pub of_epoch_law : ℕ
 unfolding epoch_worlds.fresh_replicas epoch_worlds.first_epoch_world epoch_worlds.packet_sends epoch_worlds.after_stamping epoch_worlds.asks_stamp epoch_worlds.after_replica epoch_worlds.replica_steps epoch_worlds.replica_takes epoch_worlds.after_coordinator epoch_worlds.happens epoch_worlds.moment reading.read
 of_epoch_law = 0
 
 unfoldable pub all_definitions : ℕ
-unfolding of_log of_locks of_drop of_view of_sequencer of_rules of_epoch_law
+unfolding of_log of_locks of_drop of_view of_holders of_stamps of_epoch_rules of_epoch_law
 all_definitions = 0

@@ -9,6 +9,7 @@ use Rattle.eris_base.specs.declared.ids.View.{View}
 use Rattle.eris_base.specs.Each.{Each}
 use Rattle.eris_base.specs.Quorums.{has_replica}
 use Rattle.eris_base.proofs.Each.{Each-weaker}
+use Rattle.eris_base.proofs.Numbers.{last_or}
 use Rattle.eris_log.specs.Growth.{IsWithin, Agree, OfOneShard}
 use Rattle.eris_log.specs.Laws.Parts.{IsWithin-refl, IsWithin-trans, IsWithin-merge_second, IsUnion-merge}
 use Rattle.eris_log.specs.PartValues.{PartValue}
@@ -31,7 +32,7 @@ use Rattle.eris_epoch_law.proofs.Frame.{IsWritten, read-some, written, first_fre
 use Rattle.eris_epoch_law.proofs.Grow.{IsWithin-union}
 use Rattle.eris_epoch_law.proofs.Leaves.{ComesFrom}
 use Rattle.eris_epoch_law.proofs.Members.{Each-at, Each-by_In}
-use Rattle.eris_epoch_law.proofs.Moments.{last, full_at, next, later, cause}
+use Rattle.eris_epoch_law.proofs.Moments.{full_at, next, later, cause}
 use Rattle.eris_epoch_law.proofs.Moves.{Came, Move, Rests, ReplicaMoves, CoordMoves, NudgeMoves, Stamps, moved}
 use Rattle.eris_epoch_law.proofs.StampList.{stamps}
 use Rattle.eris_key_law.proofs.Turns.{Turn, Same, Stays, Begins, Joins, IsTurned, turned}
@@ -284,7 +285,7 @@ module _ (system : EpochSystem) (events : List EpochEvent) where
 
   sound_to : (k j : ℕ) (s : ShardId) (r : ReplicaId) → j ≤ k → IsSound j s r
   sound_to zero j s r le = let e : 0 ≡ j = omega arith in subst (λ n. IsSound n s r) e (fresh_sound s r (fresh_then s r))
-  sound_to (suc k) j s r le = elim (last j k le) [ inl l ↦ sound_to k j s r l | inr e ↦ subst (λ n. IsSound n s r) (sym e) (sound_next k s r (λ i a b h. sound_to k i a b h)) ]
+  sound_to (suc k) j s r le = elim (last_or j k le) [ inl l ↦ sound_to k j s r l | inr e ↦ subst (λ n. IsSound n s r) (sym e) (sound_next k s r (λ i a b h. sound_to k i a b h)) ]
 
   -- VIEW CHANGES ARE SOUND at every moment
   pub sound : (k : ℕ) (s : ShardId) (r : ReplicaId) → IsSound k s r

@@ -7,6 +7,7 @@ use Rattle.eris_lock_law.proofs.Act.{act, acted, any_holding_in, fit_noted}
 use Rattle.eris_base.proofs.Each.{Each-append, Each-weaker}
 use Rattle.eris_lock_law.proofs.Fit.{Distinct, EntryFit, Fit, Good, Plain, Point, entry_of, has_id, holding_in, is_holding, is_known, is_waiting, known_here, logged_answers, logged_noted, reached, ruled_noted, served_at, sound_noted, waiting_in, waiting_in-append}
 use Rattle.eris_base.proofs.TxnIdLaws.{same_id-true, same_id-turned}
+use Rattle.eris_base.proofs.Booleans.{or_none}
 use Rattle.eris_lock_law.proofs.Log.{Complete, Entry, Holds, Status, Void, Waits, current-append, effect, has_acted, is_complete, is_open, left_at}
 use Rattle.eris_lock_law.proofs.Order.{order_added}
 use Rattle.eris_lock_law.proofs.Release.{Right, acts_on, passed, rewait}
@@ -40,10 +41,6 @@ not_holding Waits h = refl
 not_holding Holds h = cc
 not_holding Complete h = refl
 not_holding Void h = refl
-
-or_none : (b : Bool) → (b || false) ≡ b
-or_none true = refl
-or_none false = refl
 
 or_added : (a b : Bool) → (a || b) ≡ (b || (a || false))
 or_added true true = refl

@@ -5,7 +5,7 @@ use Rattle.eris_base.specs.declared.ids.Place.{Place}
 use Rattle.eris_base.specs.declared.ids.TxnId.{TxnId}
 use Rattle.eris_lock_law.proofs.Act.{any_holding_in, fit_noted, lawful_of}
 use Rattle.eris_lock_law.proofs.Arrive.{Next, fit_rest, phase_is}
-use Rattle.eris_base.proofs.Each.{Each-append, Each-left, Each-right, Each-weaker, Each-with}
+use Rattle.eris_base.proofs.Each.{Each-append, Each-left, Each-right, Each-weaker, Each-with, Each-any}
 use Rattle.eris_lock_law.proofs.Fit.{Distinct, EntryFit, Fit, Good, Plain, Point, distinct_changed, entry_of, has_id_changed, holder_of, holding_in, is_holding, is_known, is_waiting, known_here, logged_answers, logged_answers_changed, logged_noted, reached_changed, ruled_noted, sound_noted, waiting_in, waiting_in-append}
 use Rattle.eris_base.proofs.TxnIdLaws.{same_id-from, same_id-true, same_id-turned}
 use Rattle.eris_lock_law.proofs.Keys.{modes_conflict, put_on, written_at}
@@ -196,10 +196,6 @@ answered_all : (point : Point) (dones : List Done) (stepped : Stepped) → Each 
     → Right point (all_also dones stepped)
 answered_all point dones stepped g h =
     record { log = h.log; fit = h.fit; waiting = h.waiting; good = Each-append (GoodDone point.all) dones stepped.dones g h.good }
-
-each_of : {X : Type 0} (P : X → Type 0) → ((x : X) → P x) → (xs : List X) → Each P xs
-each_of P f [] = tt
-each_of P f (x ∷ xs) = (f x, each_of P f xs)
 
 -- the late answer to a waiting preliminary that is aborted is right
 late_good : (all : Plain) (id : TxnId) (waiter : ShardPacket) → all.outcome id ≡ Some Aborted → is_prelim_of id waiter ≡ true
@@ -554,7 +550,7 @@ module _ (all : Plain) (kind : TxnId → Bool) (packets : List ShardPacket) (val
         let r : Right then (release at after_waiter [] (no_longer_waiting id state.waiting)) = subst (λ (q : List ShardPacket). Right then (release at after_waiter [] q)) (sym path) (release_right then at log after_waiter [] [] refl now_fit) in
         rw (k, w, conclude_first) (at_next _ (answered then (done at it Aborted false) _ (free Aborted (is_aborted k n))
         (answered_all then (aborted_late at id state.waiting) (release at after_waiter [] (no_longer_waiting id state.waiting))
-        (each_aborted_late (GoodDone all) at id state.waiting (each_of (λ w. is_prelim_of id w ≡ true → GoodDone all (done at w Aborted true)) (λ w. late_good all id w (is_aborted k n)) state.waiting)) r)))
+        (each_aborted_late (GoodDone all) at id state.waiting (Each-any (λ w. is_prelim_of id w ≡ true → GoodDone all (done at w Aborted true)) (λ w. late_good all id w (is_aborted k n)) state.waiting)) r)))
 
     by_none : holds id state.holding ≡ false → list_any (is_prelim_of id) state.waiting ≡ false → state.decided id ≡ None
         → Next all kind packets (conclude_first state it outcome writes)

@@ -3,7 +3,7 @@ use Rattle.eris_base.specs.declared.ids.Phase.{Phase}
 use Rattle.eris_base.specs.declared.ids.Place.{Place}
 use Rattle.eris_base.specs.declared.ids.TxnId.{TxnId}
 use Rattle.eris_base.proofs.Each.{Each-append, Each-filter, Each-left, Each-right}
-use Rattle.eris_lock_law.proofs.Fit.{known_here, known_noted, same_phases}
+use Rattle.eris_lock_law.proofs.Fit.{known_here, known_noted}
 use Rattle.eris_base.proofs.TxnIdLaws.{same_id-true}
 use Rattle.eris_lock_law.proofs.Prelims.{each_aborted_late, prelim_phase}
 use Rattle.eris_lock_law.proofs.SaidFrom.{fewer}
@@ -15,6 +15,7 @@ use Rattle.eris_base.specs.TxnIds.{same_id}
 use Rattle.eris_locks.specs.declared.done.Done.{Done}
 use Rattle.eris_locks.specs.declared.held.Held.{Held}
 use Rattle.eris_locks.specs.declared.shard_packet.ShardPacket.{ShardPacket}
+use Rattle.eris_locks.proofs.PhaseLaws.{same_phase-true}
 use Rattle.eris_txn.specs.Keys.{Values}
 use Rattle.eris_txn.specs.declared.answer.Answer.{Answer}
 use Rattle.eris_txn.specs.declared.answer.Answer.TheVariants.{Aborted, Committed}
@@ -91,7 +92,7 @@ module _ (E : TxnId → Type 0) (kind : TxnId → Bool) where
           let parts = and_parts (same_id id other_id) (same_phase phase Phase.Prelim) t in
           let same : Some answer ≡ Some Aborted = sym (cond-true _ _ _ t) ∙ e in
           let value : answer ≡ Aborted = cc in
-          subst E (same_id-true id other_id parts.0) (h (same_phases phase Phase.Prelim parts.1) value)
+          subst E (same_id-true id other_id parts.0) (h (same_phase-true phase Phase.Prelim parts.1) value)
       by_test (inr n) = g other_id (sym (cond-false _ _ _ n) ∙ e)
 
   ruled_kept : (decided : TxnId → Option Answer) (recorded : TxnId → Phase → Option Answer) (id : TxnId) (phase : Phase) (given : Answer)

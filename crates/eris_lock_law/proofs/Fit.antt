@@ -16,6 +16,7 @@ use Rattle.eris_locks.specs.States.{StoreState, blocked, is_conclusory, is_decid
 use Rattle.eris_base.specs.TxnIds.{is_among, same_id}
 use Rattle.eris_locks.specs.declared.held.Held.{Held}
 use Rattle.eris_locks.specs.declared.shard_packet.ShardPacket.{ShardPacket}
+use Rattle.eris_locks.proofs.PhaseLaws.{same_phase-true}
 use Rattle.eris_txn.specs.Keys.{Values, no_values}
 use Rattle.eris_txn.specs.declared.answer.Answer.{Answer}
 use Rattle.eris_txn.specs.declared.answer.Answer.TheVariants.{Aborted, Ops}
@@ -242,17 +243,6 @@ phase_same Phase.Whole = refl
 phase_same Phase.Prelim = refl
 phase_same Phase.Conclude = refl
 
-pub same_phases : (phase other_phase : Phase) → same_phase phase other_phase ≡ true → phase ≡ other_phase
-same_phases Phase.Whole Phase.Whole h = refl
-same_phases Phase.Whole Phase.Prelim h = cc
-same_phases Phase.Whole Phase.Conclude h = cc
-same_phases Phase.Prelim Phase.Whole h = cc
-same_phases Phase.Prelim Phase.Prelim h = refl
-same_phases Phase.Prelim Phase.Conclude h = cc
-same_phases Phase.Conclude Phase.Whole h = cc
-same_phases Phase.Conclude Phase.Prelim h = cc
-same_phases Phase.Conclude Phase.Conclude h = refl
-
 pub known_noted : (recorded : TxnId → Phase → Option Answer) (id : TxnId) (phase : Phase) (answer : Answer) (other_id : TxnId) (other_phase : Phase)
     → is_known (recorded other_id other_phase) ≡ true → is_known (note recorded id phase answer other_id other_phase) ≡ true
 known_noted recorded id phase answer other_id other_phase h = by_test (same_id id other_id && same_phase phase other_phase)
@@ -275,7 +265,7 @@ sound_noted plain_run_of recorded id phase answer h g i q c is = by_test (cases_
     by_test (inl t) =
         let parts = and_parts _ _ t in
         let here : id ≡ i = same_id-true id i parts.0 in
-        let there : phase ≡ q = same_phases phase q parts.1 in
+        let there : phase ≡ q = same_phase-true phase q parts.1 in
         let same : Some answer ≡ Some c = sym (cond-true _ _ _ t) ∙ is in
         let value : answer ≡ c = cc in
         subst (λ (r : Phase). Good plain_run_of r i c) there (subst (λ (that_id : TxnId). Good plain_run_of phase that_id c) here (subst (λ (d : Answer). Good plain_run_of phase id d) value g))

@@ -5,7 +5,6 @@ use Rattle.eris_base.specs.declared.ids.Place.{Place}
 use Rattle.eris_base.specs.declared.ids.TxnId.{TxnId}
 use Rattle.eris_base.proofs.Each.{Each-left, Each-right}
 use Rattle.eris_lock_law.proofs.Final.{all_said, answers_right}
-use Rattle.eris_lock_law.proofs.Fit.{same_phases}
 use Rattle.eris_base.proofs.TxnIdLaws.{same_id-from, same_id-true}
 use Rattle.eris_lock_law.proofs.Lost.{said_finds}
 use Rattle.eris_lock_law.proofs.Once.{answer_to, stands_once}
@@ -23,6 +22,7 @@ use Rattle.eris_locks.specs.WellFormed.{WellFormed}
 use Rattle.eris_locks.specs.declared.done.Done.{Done}
 use Rattle.eris_locks.specs.declared.held.Held.{Held}
 use Rattle.eris_locks.specs.declared.shard_packet.ShardPacket.{ShardPacket}
+use Rattle.eris_locks.proofs.PhaseLaws.{same_phase-true}
 use Rattle.eris_txn.specs.Keys.{Values, no_values}
 use Rattle.eris_txn.specs.declared.answer.Answer.{Answer}
 use Rattle.eris_txn.specs.declared.answer.Answer.TheVariants.{Aborted, Committed}
@@ -52,7 +52,7 @@ module _ (D : TxnId → Phase → Answer → Type 0) where
           let parts = and_parts (same_id id i) (same_phase phase q) t in
           let same : Some answer ≡ Some c = sym (cond-true _ _ _ t) ∙ e in
           let value : answer ≡ c = cc in
-          subst (λ (r : Phase). D i r c) (same_phases phase q parts.1) (subst (λ (that_id : TxnId). D that_id phase c) (same_id-true id i parts.0) (subst (λ (given : Answer). D id phase given) value h))
+          subst (λ (r : Phase). D i r c) (same_phase-true phase q parts.1) (subst (λ (that_id : TxnId). D that_id phase c) (same_id-true id i parts.0) (subst (λ (given : Answer). D id phase given) value h))
       by_test (inr n) = g i q c (sym (cond-false _ _ _ n) ∙ e)
 
   held_said : (id : TxnId) (body : Body) (values : Values) (holding : List Held) → D id (phase_of body) (answer_of body values)
@@ -242,7 +242,7 @@ pub record FirstConcluded (id : TxnId) (packets : List ShardPacket) : Type 0 whe
   pub none : HasPacket id Phase.Conclude before → ⊥
 
 phase_from_test : (body : Body) → same_phase Phase.Conclude (phase_of body) ≡ true → phase_of body ≡ Phase.Conclude
-phase_from_test body h = sym (same_phases Phase.Conclude (phase_of body) h)
+phase_from_test body h = sym (same_phase-true Phase.Conclude (phase_of body) h)
 
 same_self : (phase : Phase) → phase ≡ Phase.Conclude → same_phase Phase.Conclude phase ≡ true
 same_self Phase.Whole e = cc

@@ -42,7 +42,7 @@ outcome_here (Prelim locks) later h e = cc
 outcome_here (Commit keys writes) later h e = cc
 outcome_here (Abort keys) later h e = cc
 
-outcome_later : (body : Body) (here : Bool) (later : Option Answer) → outcome_by body here later ≡ None → later ≡ None
+pub outcome_later : (body : Body) (here : Bool) (later : Option Answer) → outcome_by body here later ≡ None → later ≡ None
 outcome_later (Independent ops) here later h = h
 outcome_later (Prelim locks) here later h = h
 outcome_later (Commit keys writes) true later h = cc

@@ -3,7 +3,6 @@ use Rattle.eris_base.specs.declared.ids.Phase.{Phase}
 use Rattle.eris_base.specs.declared.ids.Place.{Place}
 use Rattle.eris_base.specs.declared.ids.TxnId.{TxnId}
 use Rattle.eris_base.proofs.Each.{Each-append}
-use Rattle.eris_lock_law.proofs.Fit.{same_phases}
 use Rattle.eris_base.proofs.TxnIdLaws.{same_id-from, same_id-true}
 use Rattle.eris_lock_law.proofs.Prelims.{each_aborted_late}
 use Rattle.eris_lock_law.proofs.Runs.{dones_of_prefix}
@@ -16,6 +15,7 @@ use Rattle.eris_locks.specs.States.{StoreState, blocked, decide, empty, holds, i
 use Rattle.eris_base.specs.TxnIds.{same_id}
 use Rattle.eris_locks.specs.declared.done.Done.{Done}
 use Rattle.eris_locks.specs.declared.shard_packet.ShardPacket.{ShardPacket}
+use Rattle.eris_locks.proofs.PhaseLaws.{same_phase-true}
 use Rattle.eris_txn.specs.Plans.{written}
 use Rattle.eris_txn.specs.declared.answer.Answer.{Answer}
 use Rattle.eris_txn.specs.declared.answer.Answer.TheVariants.{Aborted, Committed}
@@ -58,7 +58,7 @@ module _ (id : TxnId) where
           → is_granted (note recorded other_id phase answer id Phase.Prelim) ≡ false
       by_test (inl t) =
           let parts = and_parts (same_id other_id id) (same_phase phase Phase.Prelim) t in
-          ap is_granted (cond-true _ _ _ t) ∙ n (same_id-true other_id id parts.0) (same_phases phase Phase.Prelim parts.1)
+          ap is_granted (cond-true _ _ _ t) ∙ n (same_id-true other_id id parts.0) (same_phase-true phase Phase.Prelim parts.1)
       by_test (inr k) = ap is_granted (cond-false _ _ _ k) ∙ u
 
   executes : (at : Place) (state : StoreState) (packet : ShardPacket) (late : Bool) → Lost state → is_prelim_of id packet ≡ false

@@ -3,7 +3,6 @@ use Rattle.eris_base.specs.declared.ids.Phase.{Phase}
 use Rattle.eris_base.specs.declared.ids.Place.{Place}
 use Rattle.eris_base.specs.declared.ids.TxnId.{TxnId}
 use Rattle.eris_base.proofs.Each.{Each-append, Each-filter, Each-weaker}
-use Rattle.eris_lock_law.proofs.Fit.{same_phases}
 use Rattle.eris_base.proofs.TxnIdLaws.{same_id-from, same_id-true}
 use Rattle.eris_lock_law.proofs.Prelims.{each_aborted_late}
 use Rattle.eris_base.specs.Each.{Each}
@@ -15,6 +14,7 @@ use Rattle.eris_base.specs.TxnIds.{same_id}
 use Rattle.eris_locks.specs.declared.done.Done.{Done}
 use Rattle.eris_locks.specs.declared.held.Held.{Held}
 use Rattle.eris_locks.specs.declared.shard_packet.ShardPacket.{ShardPacket}
+use Rattle.eris_locks.proofs.PhaseLaws.{same_phase-true}
 use Rattle.eris_txn.specs.Plans.{written}
 use Rattle.eris_txn.specs.declared.answer.Answer.{Answer}
 use Rattle.eris_txn.specs.declared.answer.Answer.TheVariants.{Aborted, Committed, Ops}
@@ -107,7 +107,7 @@ module _ (H : TxnId → Phase → Type 0) where
       by_test : (((same_id id i && same_phase phase q) ≡ true) ⊎ ((same_id id i && same_phase phase q) ≡ false)) → H i q
       by_test (inl t) =
           let parts = and_parts _ _ t in
-          subst (λ (r : Phase). H i r) (same_phases phase q parts.1) (subst (λ (that_id : TxnId). H that_id phase) (same_id-true id i parts.0) h)
+          subst (λ (r : Phase). H i r) (same_phase-true phase q parts.1) (subst (λ (that_id : TxnId). H that_id phase) (same_id-true id i parts.0) h)
       by_test (inr n) = g i q c (sym (cond-false _ _ _ n) ∙ e)
 
   -- what is noted of values is firm
@@ -122,7 +122,7 @@ module _ (H : TxnId → Phase → Type 0) where
           → F other_id
       by_test (inl t) =
           let parts = and_parts _ _ t in
-          subst F (same_id-true id other_id parts.0) (h (same_phases phase Phase.Prelim parts.1) (sym (ap is_granted (cond-true _ _ _ t)) ∙ e))
+          subst F (same_id-true id other_id parts.0) (h (same_phase-true phase Phase.Prelim parts.1) (sym (ap is_granted (cond-true _ _ _ t)) ∙ e))
       by_test (inr n) = g other_id (sym (ap is_granted (cond-false _ _ _ n)) ∙ e)
 
   executed_held : (id : TxnId) (body : Body) (holding : List Held) → H id (phase_of body)

@@ -17,16 +17,12 @@ use Rattle.eris_txn.specs.declared.body.Body.TheVariants.{Abort, Commit, Indepen
 use Rattle.eris_txn.specs.declared.lock.Lock.{Lock}
 use Rattle.eris_txn.specs.declared.plan.Write.{Write}
 use Rattle.std.proofs.Common.{Bool, List, None, [], append_assoc, cond, false, inl, inr, not, refl, subst, sym, true, ◌&&◌, ◌++◌, ◌∙◌, ◌∷◌, ◌≡◌, ◌⊎◌}
-use Rattle.std.proofs.lemmas.Bool.{and_parts, cases_Bool, cond-false, cond-true}
+use Rattle.std.proofs.lemmas.Bool.{and_parts, cases_Bool, cond-false, cond-true, not-true}
 
 abbrev pub kind_of : List ShardPacket → TxnId → Bool
 kind_of [] id = false
 kind_of (packet ∷ packets) id =
     cond (same_id id packet.id && not (is_conclusory packet.body)) (is_prelim packet.body) (kind_of packets id)
-
-not_true : (b : Bool) → not b ≡ true → b ≡ false
-not_true true h = cc
-not_true false h = refl
 
 agree_kind : (a body : Body) → is_conclusory a ≡ false → is_conclusory body ≡ false → Agree a body → is_prelim a ≡ is_prelim body
 agree_kind (Independent ops) (Independent ops') p q h = refl
@@ -52,7 +48,7 @@ kind_fits (other ∷ front) packet packets plain a =
         → cond (same_id packet.id other.id && not (is_conclusory other.body)) (is_prelim other.body) (kind_of (front ++ packet ∷ packets) packet.id) ≡ is_prelim packet.body
     by_test (inl t) ih =
         let parts = and_parts _ _ t in
-        cond-true _ _ _ t ∙ sym (agree_kind packet.body other.body plain (not_true _ parts.1) (a.0 (same_id-true _ _ parts.0)))
+        cond-true _ _ _ t ∙ sym (agree_kind packet.body other.body plain (not-true _ parts.1) (a.0 (same_id-true _ _ parts.0)))
     by_test (inr t) ih = cond-false _ _ _ t ∙ ih
 
 within_head : (id : TxnId) (locks : List Lock) (other_id : TxnId) (other_body : Body) (later : List Write)

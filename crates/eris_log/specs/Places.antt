@@ -5,6 +5,7 @@ use Rattle.std.specs.Ordering.{nat_cmp, ordering_then}
 use Rattle.std.specs.declared.cmp.Ordering.{Ordering}
 use Rattle.eris_base.specs.declared.ids.Epoch.{Epoch}
 use Rattle.eris_base.specs.declared.ids.Place.{Place}
+use Rattle.eris_base.specs.declared.ids.ShardId.{ShardId}
 use Rattle.eris_base.specs.declared.stamp.Stamp.{Stamp}
 use Rattle.eris_log.specs.Sorted.{ascends, with_item, union}
 
@@ -38,6 +39,19 @@ with_place places place = with_item (λ other. other) place_cmp places place
 -- ascending places with each of the others that isn't there yet
 unfoldable pub with_places : List Place → List Place → List Place
 with_places places others = union (λ other. other) place_cmp places others
+
+-- shards and numbers as places of an epoch, and back
+abbrev pub place_at : Epoch → ShardId × ℕ → Place
+place_at epoch pair = record { epoch = epoch; shard = pair.0; number = pair.1 }
+
+abbrev pub pair_of : Place → ShardId × ℕ
+pair_of place = (place.shard, place.number)
+
+abbrev pub places_at : Epoch → List (ShardId × ℕ) → List Place
+places_at epoch pairs = map (λ pair. place_at epoch pair) pairs
+
+abbrev pub pairs_of : List Place → List (ShardId × ℕ)
+pairs_of places = map (λ place. pair_of place) places
 
 -- the places that a stamp names
 unfoldable pub places_of : Stamp → List Place

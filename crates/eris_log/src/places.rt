@@ -1,8 +1,8 @@
-//! Ascending rows of places.
+//! Ascending rows of places, and places as shards and numbers of an epoch.
 ghost use Rattle.std.specs.Prelude.{◌≡◌, IsTrue, OnOk, OnErr, IfOk, map};
 ghost use Rattle.eris_base.specs.declared.ids.Epoch.{Epoch};
 ghost use Rattle.eris_log.specs.PartFacts.{AreMarks};
-ghost use Rattle.eris_log.specs.Places.{contains_place, places_ascend, with_place, with_places, places_of, any_among};
+ghost use Rattle.eris_log.specs.Places.{contains_place, places_ascend, with_place, with_places, places_at, places_of, pairs_of, any_among};
 ghost use Rattle.std.specs.List.{list_any};
 
 use crate::sorted::{Keyed, contains, include, include_all, merged};
@@ -91,19 +91,20 @@ pub fn places_of(alloc: Global, stamp: &Stamp) -> Result<Row<Place>, NoMemory>
     ensures places { IfOk result (λ places. places ≡ places_of stamp.now) }
     ensures marks { IfOk result (λ places. AreMarks stamp.now.epoch places) }
 {
-    let places = named_places(alloc, stamp.epoch, stamp.places())?;
+    let places = places_at(alloc, stamp.epoch, stamp.places())?;
     Ok(places)
 }
 
-fn named_places(
+/// Shards and numbers as places of an epoch.
+pub fn places_at(
     alloc: Global,
     epoch: Epoch,
-    named: &[(ShardId, u32)],
+    pairs: &[(ShardId, u32)],
 ) -> Result<Row<Place>, NoMemory>
-    ensures { IfOk result (λ places. places ≡ map (λ place. record { epoch = epoch; shard = place.0; number = place.1 }) named.now) }
+    ensures { IfOk result (λ places. places ≡ places_at epoch pairs.now) }
 {
     let mut places = Row::new(alloc);
-    for place in named {
+    for place in pairs {
         places.push(Place {
             epoch,
             shard: place.0,
@@ -111,4 +112,15 @@ fn named_places(
         })?;
     }
     Ok(places)
+}
+
+/// The shards and numbers of places.
+pub fn pairs_of(alloc: Global, places: &[Place]) -> Result<Row<(ShardId, u32)>, NoMemory>
+    ensures { IfOk result (λ pairs. pairs ≡ pairs_of places.now) }
+{
+    let mut pairs = Row::new(alloc);
+    for place in places {
+        pairs.push((place.shard, place.number))?;
+    }
+    Ok(pairs)
 }

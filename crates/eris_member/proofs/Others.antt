@@ -1,8 +1,8 @@
 -- The other replicas of a shard, with one number more; used by the loop that lists them.
-use Rattle.std.proofs.Common.{◌≡◌, ◌==◌, ◌+◌, ℕ, Bool, true, false, not, cond, List, [], ◌∷◌, ◌++◌, map, filter, refl, ap, sym, ◌∙◌, arith}
+use Rattle.std.proofs.Common.{◌≡◌, ◌==◌, ◌+◌, ℕ, Bool, true, false, not, cond, List, [], ◌∷◌, ◌++◌, map, filter, refl, ap, ◌∙◌}
 use Rattle.std.specs.List.{range_with_len}
-use Rattle.std.proofs.lemmas.List.FromFn.{map-range_with_len_more}
 use Rattle.eris_base.specs.declared.ids.Node.{Node}
+use Rattle.eris_base.proofs.Numbers.{range_more}
 use Rattle.eris_rules.specs.Addressees.{replica_node}
 use Rattle.eris_rules.specs.ReplicaStates.{Member}
 use Rattle.eris_member.specs.MemberValues.{other_node}
@@ -13,16 +13,6 @@ others_among me numbers = map (λ number. replica_node me.shard number) (filter 
 
 abbrev pub others_upto : Member → ℕ → List Node
 others_upto me count = others_among me (range_with_len 0 count)
-
-map-itself : (numbers : List ℕ) → map (λ (number : ℕ). number) numbers ≡ numbers
-map-itself [] = refl
-map-itself (number ∷ numbers) = ap (λ (rest : List ℕ). number ∷ rest) (map-itself numbers)
-
-range_more : (n : ℕ) → range_with_len 0 (n + 1) ≡ range_with_len 0 n ++ n ∷ []
-range_more n =
-    sym (map-itself (range_with_len 0 (n + 1)))
-    ∙ map-range_with_len_more (λ (number : ℕ). number) 0 n n (omega arith)
-    ∙ ap (λ (numbers : List ℕ). numbers ++ n ∷ []) (map-itself (range_with_len 0 n))
 
 one_more : (me : Member) (numbers : List ℕ) (number : ℕ) → others_among me (numbers ++ number ∷ []) ≡ others_among me numbers ++ other_node me number
 one_more me [] number = by_test (number == me.replica.0)

@@ -6,13 +6,13 @@ use Rattle.eris_base.specs.declared.ids.Place.{Place}
 use Rattle.eris_base.specs.Each.{Each}
 use Rattle.eris_log.specs.PartValues.{PartValue}
 use Rattle.eris_log.specs.Parts.{mark_dropped}
-use Rattle.eris_log.specs.Places.{place_cmp, with_place, with_places}
+use Rattle.eris_log.specs.Places.{place_cmp, with_place, with_places, pairs_of}
 use Rattle.eris_log.specs.Sorted.{union, with_item}
 use Rattle.eris_locks.specs.declared.done.Done.{Done}
 use Rattle.eris_msg.specs.declared.message.Message.{Message}
 use Rattle.eris_msg.specs.declared.outgoing.Outgoing.{Outgoing}
 use Rattle.eris_rules.specs.EpochMessages.{Exchanges, StartView, SyncAsk, Settled, send_each}
-use Rattle.eris_rules.specs.Outer.{outer_sends, tell_each, pairs_of}
+use Rattle.eris_rules.specs.Outer.{outer_sends, tell_each}
 use Rattle.eris_rules.specs.ReplicaAnswers.{late_answers, log_upto}
 use Rattle.eris_rules.specs.ReplicaStates.{Member, EpochReplica, EpochOut, others}
 use Rattle.eris_rules.specs.Settling.{mark_all_dropped, late_for, tells_late, tells_settled, settles, also_asks}

@@ -9,10 +9,10 @@ ghost use Rattle.eris_member.specs.MemberValues.{after};
 
 use crate::logs::is_open;
 use crate::member::EpochMember;
-use crate::sends::tell;
 use eris_base::{Dup, NoMemory, Node, Place, Row};
 use eris_drop::{RequestAnswer, answer_request};
 use eris_msg::{Message, Outgoing};
+use eris_rules::tell;
 use eris_txn::Packet;
 
 impl EpochMember {

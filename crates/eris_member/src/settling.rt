@@ -1,16 +1,16 @@
 //! How far the log is settled.
 ghost use Rattle.std.specs.Prelude.{◌≡◌, ◌<◌, ◌+◌, ◌*◌, ◌++◌, IfOk, OnOk};
 ghost use Rattle.eris_base.specs.Each.{Each};
-ghost use Rattle.eris_rules.specs.Outer.{outer_sends, pairs_of};
+ghost use Rattle.eris_rules.specs.Outer.{outer_sends};
 ghost use Rattle.eris_rules.specs.Settling.{shared_number, tells_late, tells_settled, settles, raises, enters_above, acknowledges, sync_ask_same, sync_ask_row, notes_ack, ack_row, mark_all_dropped, learns, hears_settled, settled_same, settled_row, repeats_settled, raises_or_repeats, also_asks, sync_row};
 ghost use Rattle.eris_member.specs.MemberValues.{after};
 
 use crate::late::{late_answers, late_sends};
 use crate::member::EpochMember;
-use crate::sends::tell;
-use eris_base::{NoMemory, Place, ReplicaId, Row, ShardId, View};
+use eris_base::{NoMemory, Place, ReplicaId, Row, View};
+use eris_log::places::pairs_of;
 use eris_msg::{Message, Outgoing};
-use std::alloc::Global;
+use eris_rules::tell;
 
 impl EpochMember {
     /// The learner's timer: settles what a quorum has, or tells again how far the log is settled, and asks the
@@ -280,15 +280,4 @@ fn add_all(sends: &mut Row<Outgoing>, more: Row<Outgoing>) -> Result<(), NoMemor
         sends.push(send)?;
     }
     Ok(())
-}
-
-/// The shards and numbers of places.
-fn pairs_of(alloc: Global, places: &[Place]) -> Result<Row<(ShardId, u32)>, NoMemory>
-    ensures { IfOk result (λ pairs. pairs ≡ pairs_of places.now) }
-{
-    let mut pairs = Row::new(alloc);
-    for place in places {
-        pairs.push((place.shard, place.number))?;
-    }
-    Ok(pairs)
 }

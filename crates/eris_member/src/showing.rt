@@ -4,9 +4,9 @@ ghost use Rattle.eris_rules.specs.Views.{shows_part};
 ghost use Rattle.eris_member.specs.MemberValues.{after};
 
 use crate::member::EpochMember;
-use crate::sends::tell;
 use eris_base::{Dup, NoMemory, Row};
 use eris_msg::{Message, Outgoing};
+use eris_rules::tell;
 
 impl EpochMember {
     /// It gives the learner of its view what it knows.

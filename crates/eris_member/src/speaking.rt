@@ -1,7 +1,6 @@
 //! What a replica tells clients, and what it asks for where a packet is missing: what follows each input.
 ghost use Rattle.std.specs.Prelude.{◌≡◌, ◌<◌, ◌≤◌, ◌+◌, ◌-◌, ◌^◌, ◌++◌, ◌∷◌, [], OnOk, IsTrue};
 ghost use Rattle.eris_base.specs.declared.ids.Node.TheVariants.{Coordinator};
-ghost use Rattle.eris_locks.specs.States.{phase_of};
 ghost use Rattle.eris_log.specs.Entries.{length_of, own_place};
 ghost use Rattle.eris_rules.specs.EpochMessages.{send, Notifies, Find};
 ghost use Rattle.eris_rules.specs.Outer.{outer_send, outer_sends};
@@ -12,10 +11,11 @@ ghost use Rattle.eris_member.specs.MemberValues.{behind, gap_of};
 
 use crate::logs::{answer_after, is_open};
 use crate::member::EpochMember;
-use eris_base::{Dup, NoMemory, Node, Phase, Place, Row};
+use eris_base::{Dup, NoMemory, Node, Place, Row};
+use eris_locks::phase_of;
 use eris_log::Part;
 use eris_msg::{Message, Outgoing};
-use eris_txn::{Answer, Body, Packet};
+use eris_txn::{Answer, Packet};
 
 impl EpochMember {
     /// What follows each input: a replica that takes part in its view speaks for what it has now, and asks
@@ -221,14 +221,4 @@ fn holds_above(held: &[(u32, Packet)], number: u32) -> bool
         }
     }
     false
-}
-
-fn phase_of(body: &Body) -> Phase
-    ensures { result ≡ phase_of body.now }
-{
-    match body {
-        Body::Independent(_) => Phase::Whole,
-        Body::Prelim(_) => Phase::Prelim,
-        Body::Commit(_, _) | Body::Abort(_) => Phase::Conclude,
-    }
 }

@@ -7,10 +7,10 @@ ghost use Rattle.eris_rules.specs.Views.{starts_view, tests_view, enters_view, s
 ghost use Rattle.eris_member.specs.MemberValues.{after, IsOfOwn};
 
 use crate::member::EpochMember;
-use crate::sends::tell;
 use eris_base::{Dup, NoMemory, Node, ReplicaId, Row, View};
 use eris_log::Part;
 use eris_msg::{Message, Outgoing};
+use eris_rules::tell;
 
 impl EpochMember {
     /// Goes on to the next view, unless the number of views ends.

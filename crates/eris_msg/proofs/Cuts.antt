@@ -7,13 +7,15 @@ use Rattle.std.proofs.lemmas.Grind.{flat_map-append}
 use Rattle.std.proofs.lemmas.List.{append-nil, drop-drop, length-drop, length-take-le}
 use Rattle.std.proofs.lemmas.List.Concat.{flat_map-cons}
 use Rattle.std.proofs.Math.Seq.{take-add}
+use Rattle.eris_base.proofs.Booleans.{left_of, right_of}
+use Rattle.eris_base.proofs.Each.{All-append}
 use Rattle.eris_msg.specs.declared.framing.FrameFault.{FrameFault}
 use Rattle.eris_msg.specs.declared.framing.FrameFault.TheVariants as faults
 use Rattle.eris_msg.specs.Fields.{word}
 use Rattle.eris_msg.specs.Frames.{longest, frame, is_message, length_told, is_long, is_whole, has_frame, end_told, frame_end, IsCut, kept, Tells}
 use Rattle.eris_msg.proofs.FrameLaws.{word_again}
-use Rattle.eris_msg.proofs.Laws.{IsBytes, IsBytes-drop, IsBytes-take, left_of, right_of}
-use Rattle.eris_msg.proofs.Streams.{all_both, cut_feeds, is_long-kept, long_feeds}
+use Rattle.eris_msg.proofs.Laws.{IsBytes, IsBytes-drop, IsBytes-take}
+use Rattle.eris_msg.proofs.Streams.{cut_feeds, is_long-kept, long_feeds}
 
 record EndTold (told : Option ℕ) (at len end : ℕ) : Type 0 where
   n : ℕ
@@ -97,7 +99,7 @@ cut_more stream messages at end fine within front each e =
           ∙ ap (λ (z : List ℕ). z ++ take (4 + n) (drop at stream)) front
           ∙ ap (λ (z : List ℕ). flat_map frame messages ++ z) (sym framed)
           ∙ sym (one_more messages message);
-      each = all_both is_message messages (message ∷ []) each (subst (λ (k : ℕ). k ≤ longest) (sym len) t.small, tt);
+      each = All-append is_message messages (message ∷ []) each (subst (λ (k : ℕ). k ≤ longest) (sym len) t.small, tt);
     }
 
 pub cut_done : (stream : List ℕ) (messages : List (List ℕ)) (at : ℕ) → at ≤ length stream → take at stream ≡ flat_map frame messages → AllByRecursion is_message messages → frame_end stream at ≡ None → IsCut stream messages at

@@ -7,11 +7,12 @@ use Rattle.std.proofs.lemmas.Nat.{be_bytes_4, be_bytes_8, from_be_bytes-to_be_by
 use Rattle.eris_base.specs.declared.ids.Phase.{Phase}
 use Rattle.eris_base.specs.declared.ids.Phase.TheVariants.{Whole, Prelim, Conclude}
 use Rattle.eris_base.specs.declared.ids.ShardId.{ShardId}
+use Rattle.eris_base.proofs.Booleans.{left_of, right_of}
 use Rattle.eris_txn.specs.declared.lock.Mode.{Mode}
 use Rattle.eris_txn.specs.declared.lock.Mode.TheVariants.{Shared, Exclusive}
 use Rattle.eris_msg.specs.Codecs.{Codec, ◌⊗◌, listed}
 use Rattle.eris_msg.specs.Fields as f
-use Rattle.eris_msg.proofs.Laws.{IsWide, IsCodec, is_plain, is_checked, is_pair, is_named, is_listed, left_of, right_of}
+use Rattle.eris_msg.proofs.Laws.{IsWide, IsCodec, is_plain, is_checked, is_pair, is_named, is_listed}
 
 -- ---- numbers
 wide32 : IsWide w32 (2 ^ 32)

@@ -2,14 +2,14 @@
 use Rattle.std.proofs.Common.{◌≡◌, ℕ, ◌+◌, ◌-◌, ◌^◌, ◌<◌, ◌≤◌, ◌&&◌, Bool, true, false, cond, nat_lt, nat_le, List, [], ◌∷◌, ◌++◌, length, take, drop, Option, Some, None, get_or, refl, sym, ap, subst, ◌∙◌, append_assoc, arith, inl, inr}
 use Rattle.std.specs.Int.{w32, from_be_bytes, to_be_bytes}
 use Rattle.std.specs.List.{flat_map, AllByRecursion}
-use Rattle.std.proofs.lemmas.Bool.{cases_lt, ltb-true, ltb-false, le-ltb, lt-ltb, leb-true, le-leb, lt-leb}
+use Rattle.std.proofs.lemmas.Bool.{cases_lt, ltb-true, ltb-false, le-ltb, lt-ltb, leb-true, le-leb, lt-leb, and_from}
 use Rattle.std.proofs.lemmas.List.{take_at, drop_at, length-append, length-drop, append-nil, get_or_append_left, get_or-append-add}
 use Rattle.std.proofs.lemmas.List.Concat.{flat_map-cons}
 use Rattle.std.proofs.lemmas.Nat.{be_bytes_4, from_be_bytes-to_be_bytes_4}
 use Rattle.eris_msg.specs.Fields.{word}
 use Rattle.eris_msg.specs.Frames.{longest, frame, is_message, length_told, is_too_long, is_long, is_whole, has_frame, Splits, kept}
 use Rattle.eris_msg.proofs.Windows.{four_from}
-use Rattle.eris_msg.proofs.Laws.{IsBytes, left_of, right_of, both}
+use Rattle.eris_msg.proofs.Laws.{IsBytes}
 
 pub both_bytes : (front piece : List ℕ) → IsBytes front → IsBytes piece → IsBytes (front ++ piece)
 both_bytes front piece h k i =
@@ -82,7 +82,7 @@ frame_length message rest =
 pub has_frame-frame : (message rest : List ℕ) → is_message message → has_frame (frame message ++ rest) ≡ true
 unfolding has_frame
 has_frame-frame message rest h =
-    rw (told_frame message rest h) (both _ _ (le-leb (length message) longest h) (le-leb (4 + length message) _ (frame_length message rest)))
+    rw (told_frame message rest h) (and_from _ _ (le-leb (length message) longest h) (le-leb (4 + length message) _ (frame_length message rest)))
 
 long_not_whole : (told : Option ℕ) (len : ℕ) → is_too_long told ≡ true → is_whole told len ≡ false
 long_not_whole None len h = refl

@@ -1,10 +1,11 @@
 -- A codec reads what it spells, and nothing else: the laws of each way to make codecs of smaller ones.
-use Rattle.std.proofs.Common.{◌≡◌, ℕ, zero, suc, ◌+◌, ◌^◌, ◌<◌, ◌≤◌, Bool, true, false, ◌&&◌, cond, nat_lt, List, [], ◌∷◌, ◌++◌, length, get_or, take, drop, Result, Ok, Err, refl, sym, ap, subst, ◌∙◌, append_assoc, arith, inl, inr}
+use Rattle.std.proofs.Common.{◌≡◌, ℕ, zero, suc, ◌+◌, ◌^◌, ◌<◌, ◌≤◌, Bool, true, false, cond, nat_lt, List, [], ◌∷◌, ◌++◌, length, get_or, take, drop, Result, Ok, Err, refl, sym, ap, subst, ◌∙◌, append_assoc, arith, inl, inr}
 use Rattle.std.specs.List.{flat_map}
 use Rattle.std.proofs.lemmas.List.Concat.{flat_map-cons}
 use Rattle.std.specs.Int.{Width, byte_len, from_be_bytes, to_be_bytes}
-use Rattle.std.proofs.lemmas.Bool.{cases_lt, ltb-false, le-ltb, ltb-true, lt-ltb}
+use Rattle.std.proofs.lemmas.Bool.{cases_lt, ltb-false, le-ltb, ltb-true, lt-ltb, and_from}
 use Rattle.std.proofs.lemmas.List.{take_at, drop_at, take-append-drop, length-append, length-take, get_or-drop, get_or-take, get_or_past}
+use Rattle.eris_base.proofs.Booleans.{left_of, right_of}
 use Rattle.eris_msg.specs.declared.fault.DecodeReason.{DecodeReason}
 use Rattle.eris_msg.specs.declared.fault.DecodeReason.TheVariants.{Short}
 use Rattle.eris_msg.specs.declared.fault.Wrong.{Wrong}
@@ -35,17 +36,6 @@ made x = Ok x
 
 pub ok_is : {A : Type 0} (x y : A) → made x ≡ made y → x ≡ y
 ok_is x y e = cc
-
-pub both : (a b : Bool) → a ≡ true → b ≡ true → (a && b) ≡ true
-both a b p q = rw (p, q) refl
-
-pub left_of : (a b : Bool) → (a && b) ≡ true → a ≡ true
-left_of true b h = refl
-left_of false b h = absurd cc
-
-pub right_of : (a b : Bool) → (a && b) ≡ true → b ≡ true
-right_of true b h = h
-right_of false b h = absurd cc
 
 -- what was read is spelled at the front, and fits
 pub record Takes {X : Type 0} (c : Codec X) (bytes : List ℕ) (x : X) (rest : List ℕ) : Type 0 where
@@ -102,7 +92,7 @@ is_checked {X = X} ok reason c h = record {
       let b = bind_ok (c.read bytes) (λ x. cond (ok x.0) (Ok x) (bad (length bytes) reason)) (x, rest) e in
       let k = check_ok ok (record { left = length bytes; reason = reason }) b.0 (x, rest) b.2 in
       let t = h.takes bytes x rest fits (b.1 ∙ ap (λ (p : X × List ℕ). Ok p) k.0) in
-      record { parts = t.parts; fits = both _ _ t.fits k.1 };
+      record { parts = t.parts; fits = and_from _ _ t.fits k.1 };
   again = λ x rest fits.
       rw (h.again x rest (left_of (c.fits x) (ok x) fits), right_of (c.fits x) (ok x) fits) refl;
 }
@@ -139,7 +129,7 @@ is_pair {X = X} {Y = Y} c d h k = record {
       let u = k.takes r.middle p.1 rest (rest_bytes bytes (c.spell p.0) r.middle fits t.parts) r.second in
       record {
         parts = t.parts ∙ ap (λ (z : List ℕ). c.spell p.0 ++ z) u.parts ∙ sym (append_assoc (c.spell p.0) (d.spell p.1) rest);
-        fits = both _ _ t.fits u.fits;
+        fits = and_from _ _ t.fits u.fits;
       };
   again = λ p rest fits.
       rw (append_assoc (c.spell p.0) (d.spell p.1) rest, h.again p.0 (d.spell p.1 ++ rest) (left_of (c.fits p.0) (d.fits p.1) fits), k.again p.1 rest (right_of (c.fits p.0) (d.fits p.1) fits)) refl;
@@ -162,7 +152,7 @@ is_given {X = X} {Y = Y} ok to from c there back fine h = record {
   takes = λ bytes y rest fits e.
       let r = as_reads to c bytes y rest e in
       let t = h.takes bytes r.x rest fits r.read in
-      let found : Takes (given ok to from c) bytes (to r.x) rest = record { parts = rw (back r.x) t.parts; fits = both _ _ (fine r.x) (rw (back r.x) t.fits) } in
+      let found : Takes (given ok to from c) bytes (to r.x) rest = record { parts = rw (back r.x) t.parts; fits = and_from _ _ (fine r.x) (rw (back r.x) t.fits) } in
       subst (λ (z : Y). Takes (given ok to from c) bytes z rest) r.is found;
   again = λ y rest fits. rw (h.again (from y) rest (right_of (ok y) (c.fits (from y)) fits), there y (left_of (ok y) (c.fits (from y)) fits)) refl;
 }
@@ -211,7 +201,7 @@ module _ {X : Type 0} (item : List X → Codec X) (spell : X → List ℕ) (same
       let whole : flat_map spell (r.first ∷ r.more) ++ rest ≡ spell r.first ++ (flat_map spell r.more ++ rest) = rw (flat_map-cons spell r.first r.more) (append_assoc (spell r.first) (flat_map spell r.more) rest) in
       let found : ItemsTake before (suc n) bytes (r.first ∷ r.more) rest = record {
         parts = t.parts ∙ ap (λ (z : List ℕ). (item before).spell r.first ++ z) u.parts ∙ ap (λ (z : List ℕ). z ++ (flat_map spell r.more ++ rest)) (same before r.first) ∙ sym whole;
-        fits = both _ _ t.fits u.fits;
+        fits = and_from _ _ t.fits u.fits;
         count = ap suc u.count;
       } in
       subst (λ (z : List X). ItemsTake before (suc n) bytes z rest) (sym r.is) found
@@ -231,7 +221,7 @@ module _ {X : Type 0} (item : List X → Codec X) (spell : X → List ℕ) (same
         let u = items_take a.0.0 [] a.0.1 xs rest (rest_bytes bytes (count.spell a.0.0) a.0.1 fits t.parts) a.2 in
         record {
           parts = rw u.count (t.parts ∙ ap (λ (z : List ℕ). count.spell a.0.0 ++ z) u.parts ∙ sym (append_assoc (count.spell a.0.0) (flat_map spell xs) rest));
-          fits = both _ _ (rw u.count t.fits) u.fits;
+          fits = and_from _ _ (rw u.count t.fits) u.fits;
         };
     again = λ xs rest fits.
         let c = count.fits (length xs) in

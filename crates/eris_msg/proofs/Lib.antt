@@ -4,15 +4,15 @@ mod Cuts
 pub mod Decodes
 pub mod FieldLaws
 pub mod FrameLaws
-mod LastItems
+pub mod LastItems
 mod Laws
 pub mod MessageFits
 mod MessageLaws
-mod NameBytes
+pub mod NameBytes
 mod PartLaws
-mod PartOrder
+pub mod PartOrder
 pub mod RangeLaws
-mod Sizes
+pub mod Sizes
 mod StampOrder
 pub mod Streams
 mod TagLaws

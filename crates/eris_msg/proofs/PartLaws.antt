@@ -1,19 +1,20 @@
 -- Parts and lists of places read what they spell, and nothing else.
 use Rattle.std.proofs.Common.{◌≡◌, ℕ, Bool, true, ◌&&◌, ◌==◌, List, [], ◌∷◌, map, refl, ap, sym, ◌∙◌}
 use Rattle.std.specs.List.{list_all}
-use Rattle.std.proofs.lemmas.Bool.{eqb-true, eq-eqb}
+use Rattle.std.proofs.lemmas.Bool.{eqb-true, eq-eqb, and_from}
 use Rattle.eris_base.specs.declared.ids.Epoch.{Epoch}
 use Rattle.eris_base.specs.declared.ids.Place.{Place}
 use Rattle.eris_base.specs.declared.ids.ShardId.{ShardId}
+use Rattle.eris_base.proofs.Booleans.{left_of, right_of}
 use Rattle.eris_txn.specs.declared.packet.Packet.{Packet}
 use Rattle.eris_log.specs.PartValues.{PartValue}
-use Rattle.eris_log.specs.Places.{are_of_epoch}
+use Rattle.eris_log.specs.Places.{are_of_epoch, pair_of, place_at}
 use Rattle.eris_msg.specs.Codecs.{Codec, ◌⊗◌}
 use Rattle.eris_msg.specs.Fields as f
 use Rattle.eris_msg.specs.Parts as p
 use Rattle.eris_msg.proofs.BodyLaws.{is_packet}
 use Rattle.eris_msg.proofs.FieldLaws.{is_word, is_number, is_shard, is_epoch}
-use Rattle.eris_msg.proofs.Laws.{IsCodec, is_checked, is_pair, is_given, is_listed, both, left_of, right_of}
+use Rattle.eris_msg.proofs.Laws.{IsCodec, is_checked, is_pair, is_given, is_listed}
 
 pub is_listed_place : (before : List (ShardId × ℕ)) → IsCodec (p.listed_place before)
 unfolding p.listed_place
@@ -48,7 +49,7 @@ pairs_back e (q ∷ pairs) = ap (λ (z : List (ShardId × ℕ)). q ∷ z) (pairs
 pub at_epoch : (e : Epoch) (pairs : List (ShardId × ℕ)) → are_of_epoch e (p.places_at e pairs) ≡ true
 unfolding p.places_at
 at_epoch e [] = refl
-at_epoch e (q ∷ pairs) = both (e.0 == e.0) (are_of_epoch e (p.places_at e pairs)) (eq-eqb e.0 e.0 refl) (at_epoch e pairs)
+at_epoch e (q ∷ pairs) = and_from (e.0 == e.0) (are_of_epoch e (p.places_at e pairs)) (eq-eqb e.0 e.0 refl) (at_epoch e pairs)
 
 epoch_is : (e other : Epoch) → other.0 ≡ e.0 → e ≡ other
 epoch_is e other h = ap (λ (n : ℕ). let made : Epoch = record { 0 = n } in made) (sym h)
@@ -59,7 +60,7 @@ places_back e [] h = refl
 places_back e (place ∷ list) h =
     let one = left_of (place.epoch.0 == e.0) (are_of_epoch e list) h in
     let more = right_of (place.epoch.0 == e.0) (are_of_epoch e list) h in
-    let here : p.place_at e (p.pair_of place) ≡ place = ap (λ (z : Epoch). p.place_at z (p.pair_of place)) (epoch_is e place.epoch (eqb-true place.epoch.0 e.0 one)) in
+    let here : place_at e (pair_of place) ≡ place = ap (λ (z : Epoch). place_at z (pair_of place)) (epoch_is e place.epoch (eqb-true place.epoch.0 e.0 one)) in
     ap (λ (z : Place). z ∷ p.places_at e (p.pairs_of list)) here ∙ ap (λ (z : List Place). place ∷ z) (places_back e list more)
 
 part_there : (x : PartValue) → p.part_of_epoch x ≡ true

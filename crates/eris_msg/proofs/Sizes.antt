@@ -8,6 +8,7 @@ use Rattle.std.proofs.lemmas.List.Folds.{flat_map-map}
 use Rattle.eris_base.specs.declared.ids.Place.{Place}
 use Rattle.eris_base.specs.declared.ids.ShardId.{ShardId}
 use Rattle.eris_base.specs.Stamps.{StampValue}
+use Rattle.eris_base.proofs.Booleans.{left_of, right_of}
 use Rattle.eris_txn.specs.declared.key.Key.{Key}
 use Rattle.eris_txn.specs.declared.lock.Lock.{Lock}
 use Rattle.eris_txn.specs.declared.op.Op.{Op}
@@ -15,11 +16,11 @@ use Rattle.eris_txn.specs.declared.op.OpAnswer.{OpAnswer}
 use Rattle.eris_txn.specs.declared.packet.Packet.{Packet}
 use Rattle.eris_txn.specs.declared.plan.Write.{Write}
 use Rattle.std.specs.Prelude.{Option}
+use Rattle.eris_log.specs.Places.{pair_of}
 use Rattle.eris_msg.specs.Codecs.{Codec, ◌⊗◌, items_fit}
 use Rattle.eris_msg.specs.Fields as f
 use Rattle.eris_msg.specs.Parts as p
 use Rattle.eris_msg.proofs.FieldLaws.{at_most}
-use Rattle.eris_msg.proofs.Laws.{left_of, right_of}
 
 few : (most n : ℕ) (rest : Bool) → most < 256 → ((f.from_to 1 most).fits n && rest) ≡ true → n < 256
 few most n rest small h = let le : n ≤ most = at_most 1 most n (left_of ((f.from_to 1 most).fits n) rest h) in omega arith
@@ -70,12 +71,12 @@ pairs_length (place ∷ list) = ap suc (pairs_length list)
 pub many_marks : (list : List Place) → p.places.fits (p.pairs_of list) ≡ true → length list < 2 ^ 32
 many_marks list h = let lt = many_places (p.pairs_of list) h in omega (arith, pairs_length list)
 
-marks_flat : (list : List Place) → flat_map (f.shard ⊗ f.number).spell (p.pairs_of list) ≡ flat_map (λ place. (f.shard ⊗ f.number).spell (p.pair_of place)) list
+marks_flat : (list : List Place) → flat_map (f.shard ⊗ f.number).spell (p.pairs_of list) ≡ flat_map (λ place. (f.shard ⊗ f.number).spell (pair_of place)) list
 unfolding p.pairs_of
-marks_flat list = flat_map-map (f.shard ⊗ f.number).spell p.pair_of list
+marks_flat list = flat_map-map (f.shard ⊗ f.number).spell pair_of list
 
 -- places of an epoch are spelled by their shards and numbers
-pub marks_spell : (list : List Place) → p.places.spell (p.pairs_of list) ≡ f.word.spell (length list) ++ flat_map (λ place. (f.shard ⊗ f.number).spell (p.pair_of place)) list
+pub marks_spell : (list : List Place) → p.places.spell (p.pairs_of list) ≡ f.word.spell (length list) ++ flat_map (λ place. (f.shard ⊗ f.number).spell (pair_of place)) list
 unfolding p.places
 marks_spell list = rw (pairs_length list, marks_flat list) refl
 

@@ -1,9 +1,10 @@
 -- A stream in pieces: what a feed answers, piece by piece.
 use Rattle.std.proofs.Common.{◌≡◌, ℕ, ◌+◌, ◌-◌, ◌<◌, ◌≤◌, Bool, true, false, cond, List, [], ◌∷◌, ◌++◌, length, take, drop, Result, Ok, Err, refl, sym, ap, subst, ◌∙◌, append_assoc, arith, inl, inr}
-use Rattle.std.specs.List.{flat_map, AllByRecursion}
+use Rattle.std.specs.List.{flat_map}
 use Rattle.std.proofs.lemmas.Grind.{flat_map-append}
 use Rattle.std.proofs.lemmas.Bool.{cases_Bool}
 use Rattle.std.proofs.lemmas.List.{append-nil, take-append-drop, take-append-le, length-append, length-take-le, take_all}
+use Rattle.eris_base.proofs.Each.{All-append}
 use Rattle.eris_msg.specs.declared.framing.FrameFault.{FrameFault}
 use Rattle.eris_msg.specs.declared.framing.FrameFault.TheVariants as faults
 use Rattle.eris_msg.specs.Frames.{longest, frame, is_message, length_told, is_long, has_frame, IsCut, Splits, kept, Feeds, Tells, Run, messages_in, joined, AreOfJoined, PiecesJoin}
@@ -81,10 +82,6 @@ long_feeds old piece h same = record {
 }
 
 -- ---- all pieces
-pub all_both : {X : Type 0} (P : X → Type 0) (xs ys : List X) → AllByRecursion P xs → AllByRecursion P ys → AllByRecursion P (xs ++ ys)
-all_both P [] ys h k = k
-all_both P (x ∷ xs) ys h k = (h.0, all_both P xs ys h.1 k)
-
 -- the stream so far splits, and its rest is what is kept
 pub record SoFar (stream : List ℕ) (messages : List (List ℕ)) (old : List ℕ) : Type 0 where
   pub rest : List ℕ
@@ -108,7 +105,7 @@ goes_on_short stream messages rest piece more new s short f = record {
         ∙ ap (λ (z : List ℕ). flat_map frame messages ++ z) f.splits.whole
         ∙ sym (append_assoc (flat_map frame messages) (flat_map frame more) f.rest)
         ∙ ap (λ (z : List ℕ). z ++ f.rest) (sym (flat_map-append frame messages more));
-    each = all_both is_message messages more s.each f.splits.each;
+    each = All-append is_message messages more s.each f.splits.each;
     ends = f.splits.ends;
   };
   keeps = f.keeps;

@@ -1,10 +1,11 @@
 -- The fields with places and packets of an epoch.
-use Rattle.std.specs.Prelude.{ℕ, Bool, true, ◌&&◌, ◌||◌, ◌==◌, nat_lt, List, ◌++◌, Option, Some, None, map}
+use Rattle.std.specs.Prelude.{ℕ, Bool, true, ◌&&◌, ◌||◌, ◌==◌, nat_lt, List, ◌++◌, Option, Some, None}
 use Rattle.eris_base.specs.declared.ids.Epoch.{Epoch}
 use Rattle.eris_base.specs.declared.ids.Place.{Place}
 use Rattle.eris_base.specs.declared.ids.ShardId.{ShardId}
 use Rattle.eris_txn.specs.declared.packet.Packet.{Packet}
 use Rattle.eris_log.specs.PartValues.{PartValue}
+use Rattle.eris_log.specs.Places as log_places
 use Rattle.eris_log.specs.Places.{are_of_epoch}
 use Rattle.eris_msg.specs.declared.fault.DecodeReason.TheVariants.{Order}
 use Rattle.eris_msg.specs.Codecs.{Codec, checked, ◌⊗◌, named, given, last_of, listed}
@@ -33,18 +34,12 @@ held_packet before = checked (λ n. is_above (last_of before) n) Order number �
 unfoldable pub held : Codec (List (ℕ × Packet))
 held = listed word (number ⊗ packet).spell held_packet
 
--- shards and numbers as places of an epoch, and back
-abbrev pub place_at : Epoch → ShardId × ℕ → Place
-place_at e p = record { epoch = e; shard = p.0; number = p.1 }
-
-abbrev pub pair_of : Place → ShardId × ℕ
-pair_of p = (p.shard, p.number)
-
+-- shards and numbers as places of an epoch, and back, as words that most proofs here leave closed
 unfoldable pub places_at : Epoch → List (ShardId × ℕ) → List Place
-places_at e pairs = map (place_at e) pairs
+places_at e pairs = log_places.places_at e pairs
 
 unfoldable pub pairs_of : List Place → List (ShardId × ℕ)
-pairs_of list = map pair_of list
+pairs_of list = log_places.pairs_of list
 
 -- the places of a part are of its epoch
 unfoldable pub part_of_epoch : PartValue → Bool

@@ -9,7 +9,7 @@ ghost use Rattle.eris_msg.specs.Fields as f;
 use crate::fault::{DecodeReason, Stop};
 use crate::input::{Input, bad};
 use eris_base::{ClientId, Epoch, Phase, Place, ReplicaId, Row, ShardId, Stamp, TxnId, View};
-use eris_txn::{Key, Lock, Mode, Name, Write};
+use eris_txn::{Key, Lock, Mode, Name, Write, is_name_byte};
 use std::alloc::Global;
 
 #[tactic(auto, unfolding(crate::specs::Fields::number))]
@@ -140,12 +140,6 @@ pub(crate) fn read_stamp(alloc: Global, input: &mut Input) -> Result<Stamp, Stop
     let count = input.byte_in(1, 64)?;
     let places = read_stamp_places(alloc, count, input)?;
     Ok(Stamp { epoch, places })
-}
-
-fn is_name_byte(byte: u8) -> bool
-    ensures { result ≡ is_name_byte byte }
-{
-    matches!(byte, b'a'..=b'z' | b'0'..=b'9' | b'_')
 }
 
 fn read_name_byte(input: &mut Input) -> Result<u8, Stop>

@@ -8,8 +8,9 @@ use crate::fault::{DecodeReason, Stop};
 use crate::input::{Input, bad};
 use crate::read_fields::{read_epoch, read_number, read_shard};
 use crate::read_lists::{Item, read_packet, read_row};
-use eris_base::{Epoch, NoMemory, Place, Row, ShardId};
+use eris_base::{Epoch, Place, Row, ShardId};
 use eris_log::Part;
+use eris_log::places::places_at;
 use eris_txn::Packet;
 use std::alloc::Global;
 
@@ -79,23 +80,8 @@ pub(crate) fn read_places(alloc: Global, input: &mut Input) -> Result<Row<(Shard
     read_row::<(ShardId, u32)>(alloc, count, input)
 }
 
-/// Shards and numbers as places of an epoch.
-#[tactic(auto, unfolding(crate::specs::Parts::places_at))]
-fn places_at(alloc: Global, epoch: Epoch, pairs: &[(ShardId, u32)]) -> Result<Row<Place>, NoMemory>
-    ensures { IfOk result (λ places. places ≡ p.places_at epoch pairs.now) }
-{
-    let mut places = Row::new(alloc);
-    for (shard, number) in pairs {
-        places.push(Place {
-            epoch,
-            shard: *shard,
-            number: *number,
-        })?;
-    }
-    Ok(places)
-}
-
 /// Places of a part, which are of its epoch.
+#[tactic(auto, unfolding(crate::specs::Parts::places_at))]
 fn read_marks(alloc: Global, epoch: Epoch, input: &mut Input) -> Result<Row<Place>, Stop>
     ensures gives { Gives (λ x. (x, input.new)) result (arm (p.places_at epoch) p.places input.old) }
     ensures fits { IfOk result (λ places. AreMarks epoch places) }

@@ -1,5 +1,6 @@
 ghost use Rattle.std.specs.Prelude.{◌≡◌, ◌<◌, ◌^◌, ◌++◌, ◌∷◌, [], List, ℕ, length, true, OnOk, All};
 ghost use Rattle.std.specs.List.{flat_map};
+ghost use Rattle.eris_log.specs.Places.{pair_of};
 ghost use Rattle.eris_msg.specs.Codecs.{◌⊗◌};
 ghost use Rattle.eris_msg.specs.Fields as f;
 ghost use Rattle.eris_msg.specs.Parts as p;
@@ -78,7 +79,7 @@ impl Spelled for (ShardId, u32) {
 
 /// A place of a part, whose epoch is the part's.
 impl Spelled for Place {
-    ghost spell = { λ place. (f.shard ⊗ f.number).spell (p.pair_of place) };
+    ghost spell = { λ place. (f.shard ⊗ f.number).spell (pair_of place) };
 
     fn put(&self, out: &mut Row<u8>) -> Result<(), NoMemory> {
         put_pair(out, self.shard, self.number)

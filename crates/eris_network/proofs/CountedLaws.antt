@@ -1,7 +1,7 @@
 -- A message whose fields are in their ranges, but for the counts of its lists: where the lists are short enough to
 -- be counted it fits whole, and where one isn't the message is longer than any that is sent. Used before a message
 -- is spelled.
-use Rattle.std.proofs.Common.{◌≡◌, ◌<◌, ◌≤◌, ℕ, suc, ◌^◌, ◌&&◌, Bool, true, false, List, [], ◌∷◌, ◌++◌, length, refl, ap, arith, ◌⊎◌, inl, inr}
+use Rattle.std.proofs.Common.{◌≡◌, ◌<◌, ◌≤◌, ℕ, ◌^◌, ◌&&◌, Bool, true, false, List, [], ◌∷◌, ◌++◌, length, refl, arith, ◌⊎◌, inl, inr}
 use Rattle.std.specs.List.{flat_map}
 use Rattle.std.proofs.lemmas.Bool.{and_parts, ltb-true, ltb-false}
 use Rattle.std.proofs.lemmas.List.{length-append}
@@ -19,6 +19,7 @@ use Rattle.eris_msg.specs.Messages as m
 use Rattle.eris_msg.specs.Parts as p
 use Rattle.eris_msg.specs.Ranges.{PartCounted}
 use Rattle.eris_msg.specs.Spellings.{message_fits, spelling}
+use Rattle.eris_msg.proofs.Sizes.{pairs_length}
 use Rattle.eris_rules.specs.Refusals.{frame_size}
 use Rattle.eris_network.specs.Counted.{is_short, is_part_counted, is_counted}
 use Rattle.eris_network.specs.Limits.{byte_limit}
@@ -92,11 +93,6 @@ held_long : (list : List (ℕ × Packet)) → length list ≤ length (p.held.spe
 unfolding p.held
 held_long list =
     omega (arith, length-append (f.word.spell (length list)) (flat_map (f.number ⊗ f.packet).spell list), items_long (f.number ⊗ f.packet).spell held_some list)
-
-pairs_length : (list : List Place) → length (p.pairs_of list) ≡ length list
-unfolding p.pairs_of
-pairs_length [] = refl
-pairs_length (place ∷ list) = ap suc (pairs_length list)
 
 marks_long : (list : List Place) → length list ≤ length (p.places.spell (p.pairs_of list))
 marks_long list = omega (arith, places_long (p.pairs_of list), pairs_length list)

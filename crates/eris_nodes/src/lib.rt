@@ -8,5 +8,5 @@ mod replicas;
 
 pub use act::Act;
 pub use clients::Clients;
-pub use members::count_of;
+pub use members::{count_of, has_crashed};
 pub use replicas::Replicas;

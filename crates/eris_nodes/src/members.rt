@@ -207,8 +207,8 @@ fn state_of(crashed: bool, one: &Replica) -> ReplicaState
     }
 }
 
-/// Whether the replica is among those that have crashed.
-fn has_crashed(crashed: &[(ShardId, ReplicaId)], shard: ShardId, replica: ReplicaId) -> bool
+/// Whether the replica is among those that have crashed. It takes no memory.
+pub fn has_crashed(crashed: &[(ShardId, ReplicaId)], shard: ShardId, replica: ReplicaId) -> bool
     ensures { result ≡ list_any (same_replica_of shard replica) crashed.now }
 {
     crashed

@@ -10,6 +10,8 @@ use Rattle.eris_base.specs.declared.ids.Epoch.{Epoch}
 use Rattle.eris_base.specs.declared.ids.ShardId.{ShardId}
 use Rattle.eris_base.specs.ConfigLimits.{ConfigValue}
 use Rattle.eris_base.specs.Each.{Each}
+use Rattle.eris_base.proofs.IdLaws.{epoch_equal}
+use Rattle.eris_base.proofs.Each.{All-append}
 use Rattle.eris_txn.specs.declared.packet.Packet.{Packet}
 use Rattle.eris_locks.specs.Shards.{names_shard}
 use Rattle.eris_log.specs.Sorted.{placed}
@@ -33,7 +35,6 @@ use Rattle.eris_agreement.specs.WorldMoments.{moment_from}
 use Rattle.eris_agreement.proofs.ClosedLaws.{listed-In, In-listed, left_behind-epoch}
 use Rattle.eris_agreement.proofs.CoordLeaves.{noting}
 use Rattle.eris_agreement.proofs.EpochInvariants.{IsNotedRight, holds_at}
-use Rattle.eris_agreement.proofs.ReplicaLeaves.{epoch_equal}
 use Rattle.eris_order_law.proofs.Closings.{closes_at, Closes, SameClosed}
 use Rattle.eris_order_law.proofs.LaterStamps.{below-In}
 use Rattle.eris_order_law.proofs.OrderMembers.{has_number, stamping_right}
@@ -142,14 +143,10 @@ all-by_In : {X : Type 0} (P : X → Type 0) (xs : List X) → ((x : X) → In x 
 all-by_In P [] f = tt
 all-by_In P (x ∷ xs) f = (f x (inl refl), all-by_In P xs (λ y i. f y (inr i)))
 
-all-append : {X : Type 0} (P : X → Type 0) (xs ys : List X) → AllByRecursion P xs → AllByRecursion P ys → AllByRecursion P (xs ++ ys)
-all-append P [] ys f g = g
-all-append P (x ∷ xs) ys f g = (f.0, all-append P xs ys f.1 g)
-
 distinct-append : (xs ys : List Packet) → IsDistinct same_packet xs → IsDistinct same_packet ys → ((x y : Packet) → In x xs → In y ys → same_packet x y ≡ false) → IsDistinct same_packet (xs ++ ys)
 unfolding IsDistinct
 distinct-append [] ys f g h = g
-distinct-append (x ∷ xs) ys f g h = (all-append _ xs ys f.0 (all-by_In _ ys (λ y i. h x y (inl refl) i)), distinct-append xs ys f.1 g (λ a b i j. h a b (inr i) j))
+distinct-append (x ∷ xs) ys f g h = (All-append _ xs ys f.0 (all-by_In _ ys (λ y i. h x y (inl refl) i)), distinct-append xs ys f.1 g (λ a b i j. h a b (inr i) j))
 
 distinct-filter : (test : Packet → Bool) (xs : List Packet) → IsDistinct same_packet xs → IsDistinct same_packet (filter test xs)
 unfolding IsDistinct

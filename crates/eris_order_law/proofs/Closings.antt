@@ -1,9 +1,9 @@
 -- CLOSING KEEPS WHAT WAS SPOKEN PAST. What a noted replica ever held in an epoch is in its noted part: from its
 -- promise on it is frozen there, and before it it grew. So where a quorum had no gap up to a number, one of it is
 -- among the noted ones of its shard, and its packet there is closed, unless it is dropped.
-use Rattle.std.proofs.Common.{◌≡◌, ◌⊎◌, inl, inr, ℕ, zero, suc, ◌+◌, ◌*◌, ◌<◌, ◌≤◌, List, [], ◌∷◌, ◌++◌, map, filter, find, option_map, Bool, true, false, cond, not, nat_lt, ◌&&◌, ◌==◌, Some, None, refl, sym, ap, ◌∙◌, subst, arith}
+use Rattle.std.proofs.Common.{◌≡◌, ◌⊎◌, inl, inr, ℕ, zero, suc, ◌+◌, ◌*◌, ◌<◌, ◌≤◌, List, [], ◌∷◌, ◌++◌, map, filter, find, option_map, Bool, true, false, cond, not, nat_lt, ◌==◌, Some, None, refl, sym, ap, ◌∙◌, subst, arith}
 use Rattle.std.specs.List.{flat_map}
-use Rattle.std.proofs.lemmas.Bool.{cases_eq, cases_lt, eqb-true}
+use Rattle.std.proofs.lemmas.Bool.{cases_eq, cases_lt, eqb-true, and_from}
 use Rattle.std.proofs.lemmas.Bool.Decides.{nat_tests}
 use Rattle.eris_base.specs.declared.ids.Epoch.{Epoch}
 use Rattle.eris_base.specs.declared.ids.Node.TheVariants.{Coordinator}
@@ -12,6 +12,8 @@ use Rattle.eris_base.specs.declared.ids.ShardId.{ShardId}
 use Rattle.eris_base.specs.ConfigLimits.{ConfigValue}
 use Rattle.eris_base.specs.Each.{Each}
 use Rattle.eris_base.specs.Quorums.{has_replica, same_replica, are_quorum}
+use Rattle.eris_base.proofs.Booleans.{number_self}
+use Rattle.eris_base.proofs.IdLaws.{shard_equal, epoch_equal}
 use Rattle.eris_txn.specs.declared.packet.Packet.{Packet}
 use Rattle.eris_log.specs.Held.{packet_at}
 use Rattle.eris_log.specs.PartValues.{PartValue}
@@ -31,7 +33,7 @@ use Rattle.eris_rules.specs.Worlds.{first_world}
 use Rattle.eris_epoch_law.specs.EpochWorlds.{EpochSystem, EpochWorld, moment}
 use Rattle.eris_epoch_law.specs.Members.{In}
 use Rattle.eris_epoch_law.specs.Reading.{read}
-use Rattle.eris_epoch_law.proofs.Frame.{shard_equal, replica_equal}
+use Rattle.eris_epoch_law.proofs.Frame.{replica_equal}
 use Rattle.eris_epoch_law.proofs.FineWorlds.{all_fine}
 use Rattle.eris_epoch_law.proofs.Members.{Each-at, Each-by_In, In-left, In-right, In-filtered, any_witness}
 use Rattle.eris_epoch_law.proofs.Moments.{later}
@@ -45,14 +47,6 @@ use Rattle.eris_agreement.proofs.EpochInvariants.{HoldOfEpochs, IsNotedRight, no
 use Rattle.eris_agreement.proofs.Growth.{over, promise_rises, current_rises, cause}
 use Rattle.eris_agreement.proofs.Moves.{Move, Rests, ReplicaMoves, CoordinatorMoves, AsksAgain, Nudges, Stamps, Replaces, Asks, coordinator_moved, next_move}
 use Rattle.eris_agreement.proofs.Reduction.{own_events, is_epoch_run}
-use Rattle.eris_agreement.proofs.ReplicaLeaves.{epoch_equal}
-
--- ---- tests
-both_true : (a b : Bool) → a ≡ true → b ≡ true → (a && b) ≡ true
-both_true a b h k = grind arith
-
-number_self : (n : ℕ) → (n == n) ≡ true
-number_self n = grind (arith, nat_tests)
 
 -- ---- lists
 flat_map-In : {X Y : Type 0} (f : X → List Y) (xs : List X) (x : X) (y : Y) → In x xs → In y (f x) → In y (flat_map f xs)
@@ -79,7 +73,7 @@ has_left config state one number packet i same held clear =
     let test : (one.part.epoch.0 == state.current.0) ≡ true = ap (λ (e : Epoch). one.part.epoch.0 == e.0) (sym same) ∙ number_self one.part.epoch.0 in
     let of : In packet (held_of state.current one) = subst (λ b. In packet (cond b (map (λ (pair : ℕ × Packet). pair.1) one.part.held) [])) (sym test) (map-In (λ (pair : ℕ × Packet). pair.1) one.part.held (number, packet) held) in
     let all : In packet (held_in state.current state.noted ++ state.inner.found) = In-left packet _ state.inner.found (flat_map-In (λ one. held_of state.current one) state.noted one packet i of) in
-    listed-In _ packet (facts.members packet ∙ both_true _ _ (In-listed _ packet all) (ap not clear))
+    listed-In _ packet (facts.members packet ∙ and_from _ _ (In-listed _ packet all) (ap not clear))
 
 -- ---- the coordinator closes
 pub record Closes (config : ConfigValue) (now after : Servers) : Type 0 where

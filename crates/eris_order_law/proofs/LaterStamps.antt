@@ -1,8 +1,7 @@
 -- What is stamped in a closed epoch from then on is never in the order: an earlier sequencer may go on, and a
 -- skipped epoch's too, but nothing of it is ever closed or current. So what stands in the order and was stamped
 -- after a moment is of an epoch that wasn't yet left behind then.
-use Rattle.std.proofs.Common.{◌≡◌, ◌⊎◌, inl, inr, ℕ, ◌+◌, ◌<◌, ◌≤◌, List, [], ◌∷◌, Bool, true, false, cond, ◌==◌, nat_lt, refl, sym, ap, ◌∙◌, subst, arith}
-use Rattle.std.specs.List.{filter}
+use Rattle.std.proofs.Common.{◌≡◌, ◌⊎◌, inl, inr, ℕ, ◌+◌, ◌<◌, ◌≤◌, List, true, ◌==◌, nat_lt, subst, arith}
 use Rattle.std.proofs.lemmas.Bool.{and_parts, cases_lt, eqb-true, or_cases}
 use Rattle.std.proofs.lemmas.Bool.Decides.{nat_tests}
 use Rattle.eris_base.specs.declared.ids.Epoch.{Epoch}
@@ -12,7 +11,7 @@ use Rattle.eris_script.specs.declared.event.Event.{Event}
 use Rattle.eris_epoch.specs.SamePackets.{is_listed}
 use Rattle.eris_rules.specs.WorldOrders.{stamping_list, survives_now, survives, order}
 use Rattle.eris_epoch_law.specs.Members.{In}
-use Rattle.eris_epoch_law.proofs.Members.{In-filtered}
+use Rattle.eris_epoch_law.proofs.Members.{In-filtered, filtered-In}
 use Rattle.eris_agreement.specs.Alone.{stamping_of}
 use Rattle.eris_agreement.specs.ClosedBelow.{closed_below}
 use Rattle.eris_agreement.specs.EpochRuns.{servers_at}
@@ -21,17 +20,6 @@ use Rattle.eris_agreement.specs.WorldMoments.{world_at}
 use Rattle.eris_agreement.proofs.ClosedLaws.{listed-In}
 use Rattle.eris_agreement.proofs.Growth.{closed_kept, current_rises}
 use Rattle.eris_order_law.proofs.SpokenClosed.{closed_stamped}
-
--- what passes a test is among what passes
-pub filtered-In : {X : Type 0} (test : X → Bool) (xs : List X) (x : X) → In x xs → test x ≡ true → In x (filter test xs)
-filtered-In test [] x i h = absurd i
-filtered-In test (y ∷ xs) x i h = by_test (test y) refl i (λ j. filtered-In test xs x j h)
-  where
-    by_test : (b : Bool) → test y ≡ b → (x ≡ y) ⊎ In x xs → (In x xs → In x (filter test xs)) → In x (cond b (y ∷ filter test xs) (filter test xs))
-    by_test true e (inl same) rest = inl same
-    by_test true e (inr j) rest = inr (rest j)
-    by_test false e (inl same) rest = let passes : test y ≡ true = ap test (sym same) ∙ h in absurd (cc)
-    by_test false e (inr j) rest = rest j
 
 module _ (config : ConfigValue) (events : List Event) where
   abbrev at : ℕ → Servers

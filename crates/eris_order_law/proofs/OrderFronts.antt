@@ -1,11 +1,12 @@
 -- How the order begins on a shard: the log of what is closed below an epoch, and then the survivors of the epoch up to
 -- a number. Whatever list has just these packets, ascending, is its front; the order itself is never taken apart.
-use Rattle.std.proofs.Common.{◌≡◌, ◌⊎◌, inl, inr, ℕ, ◌≤◌, ◌<◌, List, ◌++◌, Bool, true, false, not, ◌&&◌, ◌==◌, nat_lt, refl, sym, ap, ◌∙◌, subst, arith}
-use Rattle.std.proofs.lemmas.Bool.{and_parts, or_cases, or_left, or_right, eqb-true, ltb-true}
+use Rattle.std.proofs.Common.{◌≡◌, ◌⊎◌, inl, inr, ℕ, ◌≤◌, ◌<◌, List, ◌++◌, Bool, true, false, not, ◌&&◌, ◌==◌, nat_lt, sym, ap, ◌∙◌, subst, arith}
+use Rattle.std.proofs.lemmas.Bool.{and_parts, or_cases, or_left, or_right, eqb-true, ltb-true, not-true}
 use Rattle.std.proofs.lemmas.Bool.Decides.{nat_tests}
 use Rattle.eris_base.specs.declared.ids.Epoch.{Epoch}
 use Rattle.eris_base.specs.declared.ids.ShardId.{ShardId}
 use Rattle.eris_base.specs.ConfigLimits.{ConfigValue}
+use Rattle.eris_base.proofs.IdLaws.{epoch_equal}
 use Rattle.eris_txn.specs.declared.packet.Packet.{Packet}
 use Rattle.eris_log.specs.Places.{any_among}
 use Rattle.eris_epoch.specs.Closing.{shard_log}
@@ -23,7 +24,6 @@ use Rattle.eris_agreement.specs.EpochRuns.{servers_at}
 use Rattle.eris_agreement.specs.Servers.{Servers}
 use Rattle.eris_agreement.specs.WorldMoments.{world_at}
 use Rattle.eris_agreement.proofs.ClosedLaws.{listed-In, In-listed}
-use Rattle.eris_agreement.proofs.ReplicaLeaves.{epoch_equal}
 use Rattle.eris_order_law.proofs.Closings.{alone, is_alone}
 use Rattle.eris_order_law.proofs.ClosedLogs.{log-In, In-log, prior_ascends}
 use Rattle.eris_order_law.proofs.LaterStamps.{below-In, In-below}
@@ -55,16 +55,12 @@ module _ (config : ConfigValue) (events : List Event) (k : ℕ) where
   epoch_now epoch = alone config events k epoch k
 
   -- ---- who survives
-  not_true : (b : Bool) → not b ≡ true → b ≡ false
-  not_true true h = sym h
-  not_true false h = refl
-
   now_parts : (packet : Packet) → survives_now (world_at config events k) packet ≡ true → (packet.stamp.epoch ≡ now.coordinator.current) × (any_among now.coordinator.inner.dropped packet.stamp ≡ false)
   unfolding survives_now
   now_parts packet h =
       let a = and_parts (packet.stamp.epoch.0 == now.coordinator.current.0) _ h in
       let b = and_parts (not (any_among now.coordinator.inner.dropped packet.stamp)) _ a.1 in
-      (epoch_equal packet.stamp.epoch now.coordinator.current (eqb-true _ _ a.0), not_true _ b.0)
+      (epoch_equal packet.stamp.epoch now.coordinator.current (eqb-true _ _ a.0), not-true _ b.0)
 
   pub survive_cases : (packet : Packet) → survives (world_at config events k) packet ≡ true
       → In packet now.coordinator.closed ⊎ ((packet.stamp.epoch ≡ now.coordinator.current) × (any_among now.coordinator.inner.dropped packet.stamp ≡ false))

@@ -9,6 +9,7 @@ use Rattle.eris_base.specs.ConfigLimits.{ConfigValue}
 use Rattle.eris_base.specs.Each.{Each}
 use Rattle.eris_base.specs.Places.{number_in}
 use Rattle.eris_base.proofs.Each.{Each-append}
+use Rattle.eris_base.proofs.IdLaws.{epoch_equal}
 use Rattle.eris_txn.specs.declared.packet.Packet.{Packet}
 use Rattle.eris_locks.specs.Shards.{names_shard}
 use Rattle.eris_script.specs.declared.event.Event.{Event}
@@ -17,7 +18,7 @@ use Rattle.eris_sequencer.specs.Sequencers.{new_stamping}
 use Rattle.eris_rules.specs.WorldOrders.{stamping_list, survives, order, order_on}
 use Rattle.eris_epoch_law.specs.Members.{In}
 use Rattle.eris_epoch_law.specs.Stamped.{HasNumber, IsBelow, Rise, IsStampingOf}
-use Rattle.eris_epoch_law.proofs.Members.{Each-at, Each-by_In, In-append, In-left, In-right, In-get, In-filtered}
+use Rattle.eris_epoch_law.proofs.Members.{Each-at, Each-by_In, In-append, In-left, In-right, In-get, In-filtered, filtered-In}
 use Rattle.eris_epoch_law.proofs.StampList.{stamps}
 use Rattle.eris_agreement.specs.Alone.{stamping_or, stamping_of}
 use Rattle.eris_agreement.specs.EpochRuns.{servers_at, system_of}
@@ -25,9 +26,7 @@ use Rattle.eris_agreement.specs.WorldMoments.{world_at}
 use Rattle.eris_agreement.proofs.ClosedLaws.{In-flat_map}
 use Rattle.eris_agreement.proofs.FollowSteps.{In-index}
 use Rattle.eris_agreement.proofs.Reduction.{own_events}
-use Rattle.eris_agreement.proofs.ReplicaLeaves.{epoch_equal}
 use Rattle.eris_order_law.proofs.Closings.{is_alone}
-use Rattle.eris_order_law.proofs.LaterStamps.{filtered-In}
 use Rattle.eris_order_law.proofs.ShardLists.{Before, Ascends, number_on-is}
 
 pub flat_map-In : {X Y : Type 0} (f : X → List Y) (xs : List X) (x : X) (y : Y) → In x xs → In y (f x) → In y (flat_map f xs)

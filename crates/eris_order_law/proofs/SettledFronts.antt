@@ -3,12 +3,13 @@
 -- drops them, by then or ever; and what it kept there was spoken past by a quorum, so that it is closed with its epoch.
 use Rattle.std.proofs.Common.{◌≡◌, inl, inr, ℕ, zero, suc, ◌+◌, ◌≤◌, ◌<◌, List, ◌++◌, Bool, true, false, cond, not, ◌==◌, Option, Some, None, refl, sym, ap, ◌∙◌, subst, arith}
 use Rattle.std.specs.Prelude.{slice_get}
-use Rattle.std.proofs.lemmas.Bool.{cases_lt, cases_eq, and_from}
+use Rattle.std.proofs.lemmas.Bool.{cases_lt, cases_eq, and_from, not-true}
 use Rattle.std.proofs.lemmas.Bool.Decides.{nat_tests}
 use Rattle.eris_base.specs.declared.ids.Epoch.{Epoch}
 use Rattle.eris_base.specs.declared.ids.ReplicaId.{ReplicaId}
 use Rattle.eris_base.specs.declared.ids.ShardId.{ShardId}
 use Rattle.eris_base.specs.ConfigLimits.{ConfigValue}
+use Rattle.eris_base.proofs.IdLaws.{epoch_equal}
 use Rattle.eris_txn.specs.declared.packet.Packet.{Packet}
 use Rattle.eris_log.specs.declared.entry.Entry.TheVariants.{Dropped, Txn, Gap}
 use Rattle.eris_log.specs.Entries.{entry_of, is_dropped, is_txn, is_held_and}
@@ -45,7 +46,6 @@ use Rattle.eris_agreement.proofs.Cells.{state_of-some}
 use Rattle.eris_agreement.proofs.EpochInvariants.{holds_at}
 use Rattle.eris_agreement.proofs.Growth.{closed_kept, current_rises, epoch_rises}
 use Rattle.eris_agreement.proofs.Reduction.{own_events}
-use Rattle.eris_agreement.proofs.ReplicaLeaves.{epoch_equal}
 use Rattle.eris_order_law.proofs.Closings.{alone, then, is_alone, own_shard}
 use Rattle.eris_order_law.proofs.OrderFronts.{IsUpto, IsEntry, epoch_now, survive_clear, closed_survives, held_survives, front_cut}
 use Rattle.eris_order_law.proofs.ShardLists.{Before, Ascends, Ascends-append, Cut, number_on-is}
@@ -75,10 +75,6 @@ open-ascends shard true (Some p) = (tt, tt)
 open-ascends shard true None = tt
 open-ascends shard false o = tt
 
-not_true : (b : Bool) → not b ≡ true → b ≡ false
-not_true true h = sym h
-not_true false h = refl
-
 -- the packet stands at a number up to this one, and its entry isn't dropped
 pub record IsKeptUpto (part : PartValue) (n : ℕ) (packet : Packet) : Type 0 where
   pub number : ℕ
@@ -91,7 +87,7 @@ at-In : (part : PartValue) (n : ℕ) (packet : Packet) → In packet (kept_at pa
 unfolding kept_at
 at-In part n packet i =
     let o = open-In (is_kept (entry_of part (n + 1))) (packet_at part.held (n + 1)) packet i in
-    record { number = n + 1; low = omega arith; high = omega arith; held = o.1; kept = not_true _ (sym (kept-is part (n + 1)) ∙ o.0) }
+    record { number = n + 1; low = omega arith; high = omega arith; held = o.1; kept = not-true _ (sym (kept-is part (n + 1)) ∙ o.0) }
 
 more_kept : (part : PartValue) (n : ℕ) (packet : Packet) → IsKeptUpto part n packet → IsKeptUpto part (suc n) packet
 more_kept part n packet k = let h = k.high in record { number = k.number; low = k.low; high = omega (arith, h); held = k.held; kept = k.kept }

@@ -32,12 +32,12 @@ use Rattle.eris_agreement.specs.WorldMoments.{world_at}
 use Rattle.eris_agreement.proofs.EpochInvariants.{holds_at}
 use Rattle.eris_agreement.proofs.Growth.{closed_kept, current_rises, epoch_rises}
 use Rattle.eris_agreement.proofs.Reduction.{own_events}
-use Rattle.eris_agreement.proofs.ReplicaLeaves.{epoch_equal}
 use Rattle.eris_order_law.proofs.Closings.{alone, then, is_alone, own_shard}
 use Rattle.eris_order_law.proofs.OrderFronts.{IsUpto, IsEntry, epoch_now, survive_clear, closed_survives, held_survives, front_cut}
 use Rattle.eris_order_law.proofs.ShardLists.{Ascends, Cut}
 use Rattle.eris_order_law.proofs.SpokenClosed.{spoken_closed}
 use Rattle.eris_base.specs.declared.ids.View.{View}
+use Rattle.eris_base.proofs.IdLaws.{epoch_equal}
 use Rattle.eris_key_law.specs.Quorums.{SpokePast}
 use Rattle.eris_order_law.proofs.SettledFronts.{kept-In, In-kept, kept-ascends, held_in}
 

@@ -11,10 +11,10 @@ use Rattle.eris_script.specs.declared.event.Event.{Event}
 use Rattle.eris_sequencer.specs.declared.stamping.Stamping.{Stamping}
 use Rattle.eris_sequencer.specs.Sequencers.{new_stamping}
 use Rattle.eris_sequencer.specs.Stamps.{next_packet, stamped_next}
+use Rattle.eris_epoch_law.proofs.Frame.{get-set}
 use Rattle.eris_agreement.specs.Alone.{stamping_or, stamping_of}
 use Rattle.eris_agreement.specs.EpochRuns.{servers_at}
 use Rattle.eris_agreement.specs.Servers.{Servers}
-use Rattle.eris_agreement.proofs.Cells.{get-set}
 use Rattle.eris_agreement.proofs.EpochGrowth.{stamping-more}
 use Rattle.eris_agreement.proofs.Growth.{over}
 use Rattle.eris_agreement.proofs.Moves.{Move, Rests, ReplicaMoves, CoordinatorMoves, AsksAgain, Nudges, Stamps, Replaces, Asks, next_move}

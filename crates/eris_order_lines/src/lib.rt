@@ -2,7 +2,6 @@
 //! packet stands in a list, or is held by a part, by which the order's packets are chosen.
 #![tactic(auto)]
 
-mod ids;
 mod lines;
 mod outcomes;
 mod survivors;

@@ -1,10 +1,9 @@
 ghost use Rattle.std.specs.Prelude.{◌≡◌, IfOk};
 ghost use Rattle.eris_order.specs.Orders.{order_line, order_lines};
 
-use crate::ids::is_among;
 use crate::outcomes::{is_conclusory, outcome_of};
 use eris_audit::OrderLine;
-use eris_base::{Dup, NoMemory, Row, TxnId};
+use eris_base::{Dup, NoMemory, Row, TxnId, is_among};
 use eris_txn::Packet;
 use std::alloc::Global;
 

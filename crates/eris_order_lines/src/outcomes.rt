@@ -3,9 +3,8 @@ ghost use Rattle.eris_base.specs.TxnIds.{is_among};
 ghost use Rattle.eris_locks.specs.States.{is_conclusory};
 ghost use Rattle.eris_order.specs.Orders.{outcome_at, outcome_from, outcome_of};
 
-use crate::ids::{is_among, is_same_id};
 use eris_audit::Outcome;
-use eris_base::TxnId;
+use eris_base::{TxnId, is_among, is_same_id};
 use eris_txn::{Body, Packet};
 
 /// Whether the body is the second half of a general transaction.

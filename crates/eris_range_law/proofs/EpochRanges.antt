@@ -3,7 +3,7 @@
 use Rattle.std.proofs.Common.{◌≡◌, ◌&&◌, ◌==◌, ℕ, true, not, Option, Some, None, is_some, nat_lt, List, [], ◌∷◌, map, refl, sym, ◌∙◌, subst}
 use Rattle.std.specs.Prelude.{⊤}
 use Rattle.std.specs.List.{list_all, AllByRecursion}
-use Rattle.std.proofs.lemmas.Bool.{cond_both, eqb-true}
+use Rattle.std.proofs.lemmas.Bool.{cond_both, eqb-true, and_from}
 use Rattle.eris_base.specs.declared.ids.Epoch.{Epoch}
 use Rattle.eris_base.specs.declared.ids.Place.{Place}
 use Rattle.eris_base.specs.declared.ids.ShardId.{ShardId}
@@ -11,29 +11,32 @@ use Rattle.eris_base.specs.ConfigLimits.{ConfigValue, IsConfig}
 use Rattle.eris_base.specs.Each.{Each}
 use Rattle.eris_base.specs.Places.{number_in}
 use Rattle.eris_base.specs.StampPlaces.{is_number}
+use Rattle.eris_base.proofs.Booleans.{left_of, right_of}
 use Rattle.eris_txn.specs.declared.packet.Packet.{Packet}
 use Rattle.eris_log.specs.PartValues.{PartValue}
 use Rattle.eris_log.specs.Parts.{empty_part}
 use Rattle.eris_log.specs.Laws.Parts.{IsPart-empty_part}
+use Rattle.eris_log.specs.Places.{places_at}
 use Rattle.eris_in_place.specs.MessageRanges.{PacketFits, PacketsFit, PlaceFits, PartFits, MessageFits}
 use Rattle.eris_msg.specs.declared.message.Message.{Message}
-use Rattle.eris_msg.specs.Codecs.{last_of}
 use Rattle.eris_msg.specs.Fields as f
 use Rattle.eris_msg.specs.Parts as p
 use Rattle.eris_msg.specs.Ranges.{PairInRange}
 use Rattle.eris_msg.proofs.MessageFits as m
+use Rattle.eris_msg.proofs.RangeLaws.{word_fits, pair_in_range}
+use Rattle.eris_msg.proofs.Sizes.{items_have}
 use Rattle.eris_rules.specs.declared.replica_input.ReplicaInput.{ReplicaInput}
 use Rattle.eris_rules.specs.EpochMessages.{EpochMessage, Stamped, Instructs, Notifies, Exchanges, Responds}
 use Rattle.eris_rules.specs.EpochReplicas.{EpochInput, Get, Probe, Suspect, Sync}
 use Rattle.eris_rules.specs.InPlace.{names_participants, all_name_participants, packets_in, packets_held, is_held_right, is_right_part, has_right_part, has_right_log, is_sound, is_for_replica, is_in_place_at_replica}
 use Rattle.eris_rules.specs.Known.{knows_all}
-use Rattle.eris_rules.specs.Outer.{Inner, inner_of, places_in}
+use Rattle.eris_rules.specs.Outer.{Inner, inner_of}
 use Rattle.eris_rules.specs.ReplicaStates.{Identity, ReplicaState, fresh, begun, first_state, is_stopped}
 use Rattle.eris_rules.specs.Replicas.{still, member, steps_in, steps, asks_start, later_txn, takes_other, takes_part_in, takes_inner, may_promise, promises, epoch_ask_row, may_begin, start_epoch_row, takes_outer, takes_said, takes, message_step, probe_step, timer_step, replica_step}
+use Rattle.eris_rules.proofs.InPlaceLaws.{kind_in_place}
 use Rattle.eris_answer_law.specs.Answering.{PacketIsRight}
 use Rattle.eris_range_law.specs.Fitting.{HeldIsRight, PlaceIsRight, PartCame, MessageIsRight, InputFits, ReplicaFits, ReplicaInputFits, ReplicaStepFits}
-use Rattle.eris_answer_law.proofs.FieldTests.{both, left_of, right_of, items_have}
-use Rattle.eris_range_law.proofs.PartRanges.{number_below, word_from, place_from, packet_stamp, stamp_right}
+use Rattle.eris_range_law.proofs.PartRanges.{number_below, place_from, packet_stamp, stamp_right}
 use Rattle.eris_range_law.proofs.RowRanges.{epoch_step-fits}
 
 -- ---- what a message carries
@@ -51,10 +54,6 @@ sound_of config message h =
       packets = left_of (all_name_participants (packets_in message)) (has_right_part message && has_right_log message) rest;
       part = left_of (has_right_part message) (has_right_log message) (right_of (all_name_participants (packets_in message)) (has_right_part message && has_right_log message) rest);
     }
-
-for_replica : (config : ConfigValue) (message : Message) → is_in_place_at_replica config message ≡ true → is_for_replica message ≡ true
-unfolding is_in_place_at_replica
-for_replica config message h = left_of (is_for_replica message) (is_sound config message) h
 
 packet_exact : (packet : Packet) (packets : List Packet) → all_name_participants (packet ∷ packets) ≡ true → names_participants packet ≡ true
 unfolding all_name_participants
@@ -96,13 +95,7 @@ place_epoch : (place : Place) → PlaceFits place → f.epoch.fits place.epoch �
 unfolding f.place
 place_epoch place h = left_of (f.epoch.fits place.epoch) (f.shard.fits place.shard && f.number.fits place.number) h
 
-pair_in : (before : List (ShardId × ℕ)) (pair : ShardId × ℕ) → (p.listed_place before).fits pair ≡ true → PairInRange pair
-unfolding p.listed_place
-pair_in before pair h =
-    let fits = left_of (f.shard.fits pair.0 && f.number.fits pair.1) (p.is_after (last_of before) pair) h in
-    (left_of (f.shard.fits pair.0) (f.number.fits pair.1) fits, right_of (f.shard.fits pair.0) (f.number.fits pair.1) fits)
-
-places_of_pairs : (epoch : Epoch) (pairs : List (ShardId × ℕ)) → f.epoch.fits epoch ≡ true → AllByRecursion PairInRange pairs → Each (PlaceIsRight epoch) (places_in epoch pairs)
+places_of_pairs : (epoch : Epoch) (pairs : List (ShardId × ℕ)) → f.epoch.fits epoch ≡ true → AllByRecursion PairInRange pairs → Each (PlaceIsRight epoch) (places_at epoch pairs)
 places_of_pairs epoch [] e h = tt
 places_of_pairs epoch (pair ∷ pairs) e h =
     (record { of_epoch = refl; fits = place_from (record { epoch = epoch; shard = pair.0; number = pair.1 }) e h.0.0 h.0.1 }, places_of_pairs epoch pairs e h.1)
@@ -137,7 +130,7 @@ said_right (Message.Ack replica epoch view length) h k s =
     let fits = right_of (f.replica.fits replica) _ (sym (m.ack_fits replica epoch view length) ∙ h) in
     (left_of (f.epoch.fits epoch) _ fits, tt)
 said_right (Message.Settled epoch view number places) h k s =
-    (h.0, (h.1, word_from number (number_below number h.2), places_of_pairs epoch places h.0 (items_have p.listed_place PairInRange pair_in [] places h.3)))
+    (h.0, (h.1, word_fits number (number_below number h.2), places_of_pairs epoch places h.0 (items_have p.listed_place PairInRange pair_in_range [] places h.3)))
 said_right (Message.NewEpoch shard replica epoch) h k s = tt
 said_right (Message.EpochAsk epoch) h k s = tt
 said_right (Message.EpochState replica epoch part) h k s = tt
@@ -194,7 +187,7 @@ module _ (me : Identity) (state : ReplicaState) (h : ReplicaFits me state) where
   unfolding asks_start
   asks_start-fits epoch e = record {
     state = h;
-    sends = (m.new_epoch_fits me.shard me.replica epoch ∙ both (f.shard.fits me.shard) (f.replica.fits me.replica && f.epoch.fits epoch) h.shard (both (f.replica.fits me.replica) (f.epoch.fits epoch) h.replica e), tt);
+    sends = (m.new_epoch_fits me.shard me.replica epoch ∙ and_from (f.shard.fits me.shard) (f.replica.fits me.replica && f.epoch.fits epoch) h.shard (and_from (f.replica.fits me.replica) (f.epoch.fits epoch) h.replica e), tt);
   }
 
   takes_other-fits : (epoch : Epoch) (message : EpochMessage) → f.epoch.fits epoch ≡ true → ReplicaStepFits me (takes_other me state epoch message)
@@ -260,7 +253,7 @@ module _ (me : Identity) (state : ReplicaState) (h : ReplicaFits me state) where
   unfolding message_step takes
   message_step-fits message k =
       cond_both (is_in_place_at_replica me.config message) (takes_said me state message (inner_of message)) (still state) (ReplicaStepFits me)
-      (λ t. let s = sound_of me.config message t in takes_said-fits message (inner_of message) k s (said_right message k (for_replica me.config message t) s))
+      (λ t. let s = sound_of me.config message t in takes_said-fits message (inner_of message) k s (said_right message k (kind_in_place me.config message t) s))
       (λ _. still-fits)
 
   probe_step-fits : ReplicaStepFits me (probe_step me state)

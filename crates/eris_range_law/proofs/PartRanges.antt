@@ -3,7 +3,7 @@
 use Rattle.std.proofs.Common.{◌≡◌, ◌<◌, ◌≤◌, ◌^◌, ◌&&◌, ◌||◌, ◌==◌, ℕ, zero, suc, Bool, true, false, cond, Option, Some, None, List, [], ◌∷◌, ◌++◌, length, find, map, nat_lt, is_some, refl, ap, sym, ◌∙◌, subst, arith}
 use Rattle.std.specs.List.{AllByRecursion}
 use Rattle.std.specs.Option.{option_map}
-use Rattle.std.proofs.lemmas.Bool.{lt-ltb, ltb-true, cond_both}
+use Rattle.std.proofs.lemmas.Bool.{lt-ltb, ltb-true, cond_both, and_from}
 use Rattle.eris_base.specs.declared.ids.Epoch.{Epoch}
 use Rattle.eris_base.specs.declared.ids.Place.{Place}
 use Rattle.eris_base.specs.declared.ids.ReplicaId.{ReplicaId}
@@ -12,13 +12,14 @@ use Rattle.eris_base.specs.declared.stamp.Stamp.{Stamp}
 use Rattle.eris_base.specs.Each.{Each}
 use Rattle.eris_base.specs.Places.{number_in, is_later, ascends_from as shards_ascend, are_stamp_places}
 use Rattle.eris_base.specs.Quorums.{same_replica}
+use Rattle.eris_base.proofs.Booleans.{left_of, right_of}
 use Rattle.eris_txn.specs.declared.packet.Packet.{Packet}
 use Rattle.eris_log.specs.Entries.{length_of, own_place, is_covered, covers}
 use Rattle.eris_log.specs.Held.{packet_at}
 use Rattle.eris_log.specs.PartFacts.{IsPart}
 use Rattle.eris_log.specs.PartValues.{PartValue}
 use Rattle.eris_log.specs.Parts.{hold, mark_temp, mark_found, mark_dropped, merge}
-use Rattle.eris_log.specs.Places.{contains_place, with_place, with_places, places_of}
+use Rattle.eris_log.specs.Places.{contains_place, with_place, with_places, places_of, pairs_of}
 use Rattle.eris_log.specs.Sorted.{union}
 use Rattle.eris_log.specs.Laws.Entries.{covers-length_of, covers-at}
 use Rattle.eris_log.specs.Laws.Held.{all-packet_at}
@@ -31,29 +32,21 @@ use Rattle.eris_msg.specs.Codecs.{items_fit}
 use Rattle.eris_msg.specs.Fields as f
 use Rattle.eris_msg.specs.Ranges.{PairInRange, PlaceInRange, HeldInRange}
 use Rattle.eris_msg.proofs.FieldLaws.{at_least}
-use Rattle.eris_rules.specs.Outer.{pairs_of}
+use Rattle.eris_msg.proofs.RangeLaws.{next_shard}
+use Rattle.eris_msg.proofs.Sizes.{items_have}
 use Rattle.eris_rules.specs.Settling.{mark_all_dropped}
 use Rattle.eris_view.specs.ViewTallies.{with_part, union_of}
 use Rattle.eris_answer_law.specs.Answering.{PacketIsRight}
 use Rattle.eris_range_law.specs.Fitting.{PacketIsOf, PartIsRight, PlaceIsRight, HeldIsRight}
-use Rattle.eris_answer_law.proofs.FieldTests.{both, left_of, right_of, items_have, last_added}
 
 -- ---- numbers
 pub number_from : (number : ℕ) → 1 ≤ number → number < 2 ^ 32 → f.number.fits number ≡ true
 unfolding f.number f.word
-number_from number some few = both (nat_lt number (2 ^ 32)) (nat_lt 0 number) (lt-ltb number (2 ^ 32) few) (lt-ltb 0 number (omega arith))
+number_from number some few = and_from (nat_lt number (2 ^ 32)) (nat_lt 0 number) (lt-ltb number (2 ^ 32) few) (lt-ltb 0 number (omega arith))
 
 pub number_below : (number : ℕ) → f.number.fits number ≡ true → number < 2 ^ 32
 unfolding f.number f.word
 number_below number h = ltb-true number (2 ^ 32) (left_of (nat_lt number (2 ^ 32)) (nat_lt 0 number) h)
-
-pub word_from : (number : ℕ) → number < 2 ^ 32 → f.word.fits number ≡ true
-unfolding f.word
-word_from number few = lt-ltb number (2 ^ 32) few
-
-pub word_under : (number : ℕ) → f.word.fits number ≡ true → number < 2 ^ 32
-unfolding f.word
-word_under number h = ltb-true number (2 ^ 32) h
 
 -- ---- places and stamps
 pub place_in_range : (place : Place) → PlaceFits place → PlaceInRange place
@@ -64,7 +57,7 @@ place_in_range place h =
 
 pub place_from : (place : Place) → f.epoch.fits place.epoch ≡ true → f.shard.fits place.shard ≡ true → f.number.fits place.number ≡ true → PlaceFits place
 unfolding f.place
-place_from place e s n = both (f.epoch.fits place.epoch) (f.shard.fits place.shard && f.number.fits place.number) e (both (f.shard.fits place.shard) (f.number.fits place.number) s n)
+place_from place e s n = and_from (f.epoch.fits place.epoch) (f.shard.fits place.shard && f.number.fits place.number) e (and_from (f.shard.fits place.shard) (f.number.fits place.number) s n)
 
 stamp_item : (before : List (ShardId × ℕ)) (pair : ShardId × ℕ) → (f.stamp_place before).fits pair ≡ true → PairInRange pair × (is_later (f.shard_before before) pair.0 ≡ true)
 unfolding f.stamp_place
@@ -74,16 +67,12 @@ stamp_item before pair h =
       right_of (f.shard.fits pair.0) (is_later (f.shard_before before) pair.0) front,
     )
 
-shard_behind : (before : List (ShardId × ℕ)) (pair : ShardId × ℕ) → f.shard_before (before ++ pair ∷ []) ≡ Some pair.0
-unfolding f.shard_before
-shard_behind before pair = ap (λ (z : Option (ShardId × ℕ)). option_map (λ q. q.0) z) (last_added before pair)
-
 stamp_ascends : (before list : List (ShardId × ℕ)) → items_fit f.stamp_place before list ≡ true → shards_ascend (f.shard_before before) list ≡ true
 stamp_ascends before [] h = refl
 stamp_ascends before (pair ∷ list) h =
     let here = stamp_item before pair (left_of ((f.stamp_place before).fits pair) (items_fit f.stamp_place (before ++ pair ∷ []) list) h) in
     let more = stamp_ascends (before ++ pair ∷ []) list (right_of ((f.stamp_place before).fits pair) (items_fit f.stamp_place (before ++ pair ∷ []) list) h) in
-    both _ _ here.1 (subst (λ (z : Option ShardId). shards_ascend z list ≡ true) (shard_behind before pair) more)
+    and_from _ _ here.1 (subst (λ (z : Option ShardId). shards_ascend z list ≡ true) (next_shard before pair) more)
 
 -- what a stamp that fits has
 pub record StampIsRight (stamp : Stamp) : Type 0 where
@@ -99,7 +88,7 @@ stamp_right stamp h =
     let some = at_least 1 64 (length stamp.places) (left_of ((f.from_to 1 64).fits (length stamp.places)) (items_fit f.stamp_place [] stamp.places) behind) in
     record {
       epoch = left_of (f.epoch.fits stamp.epoch) ((f.from_to 1 64).fits (length stamp.places) && items_fit f.stamp_place [] stamp.places) h;
-      places = both _ _ (lt-ltb 0 (length stamp.places) (omega arith)) (stamp_ascends [] stamp.places items);
+      places = and_from _ _ (lt-ltb 0 (length stamp.places) (omega arith)) (stamp_ascends [] stamp.places items);
       pairs = items_have f.stamp_place PairInRange (λ before pair k. (stamp_item before pair k).0) [] stamp.places items;
     }
 

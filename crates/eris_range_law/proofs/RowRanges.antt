@@ -1,7 +1,7 @@
 -- A REPLICA KEEPS TO THE MESSAGES' RANGES within an epoch: where what it keeps and its input are in them, so are
 -- what it keeps after its step and what it sends.
 use Rattle.std.proofs.Common.{◌≡◌, ◌+◌, ◌-◌, ◌&&◌, ℕ, not, Option, Some, None, [], ◌∷◌, is_some, refl, ◌∙◌}
-use Rattle.std.proofs.lemmas.Bool.{and_parts, cond_both}
+use Rattle.std.proofs.lemmas.Bool.{and_parts, cond_both, and_from}
 use Rattle.eris_base.specs.declared.ids.Epoch.{Epoch}
 use Rattle.eris_base.specs.declared.ids.Place.{Place}
 use Rattle.eris_base.specs.Places.{number_in}
@@ -24,7 +24,6 @@ use Rattle.eris_range_law.proofs.PartRanges.{hold-right, mark_temp-right, mark_f
 use Rattle.eris_range_law.proofs.SendRanges.{sent_also, speaks_for-fits, speaks_after-fits, gap-fits}
 use Rattle.eris_range_law.proofs.SettlingRanges.{sync_ask_row-fits, ack_row-fits, settled_row-fits, sync_row-fits}
 use Rattle.eris_range_law.proofs.ViewRanges.{quiet-fits, shows_part-fits, suspect_row-fits, view_change_row-fits, start_view_row-fits}
-use Rattle.eris_answer_law.proofs.FieldTests.{both}
 
 module _ (me : Member) (epoch : Epoch) (fits : MemberFits me epoch) where
   abbrev Fits : EpochReplica → Type 0
@@ -69,7 +68,7 @@ module _ (me : Member) (epoch : Epoch) (fits : MemberFits me epoch) where
     state = record { view = h.view; part = mark_temp-right epoch me.shard state.part place h.part k; noted = h.noted; settled = h.settled };
     sends = (
       m.temp_dropped_fits place me.shard me.replica state.view
-          ∙ both (f.place.fits place) _ k.fits (both (f.shard.fits me.shard) _ fits.shard (both (f.replica.fits me.replica) (f.view.fits state.view) fits.replica h.view)),
+          ∙ and_from (f.place.fits place) _ k.fits (and_from (f.shard.fits me.shard) _ fits.shard (and_from (f.replica.fits me.replica) (f.view.fits state.view) fits.replica h.view)),
       tt,
     );
   }

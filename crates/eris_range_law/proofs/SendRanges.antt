@@ -1,9 +1,8 @@
 -- What a replica says to clients and to the coordinator is in the messages' ranges; used for its rows.
 use Rattle.std.proofs.Common.{◌≡◌, ◌<◌, ◌≤◌, ◌+◌, ◌-◌, ◌^◌, ℕ, zero, suc, Bool, true, false, nat_le, Option, Some, None, List, [], ◌∷◌, ◌++◌, map, refl, sym, ◌∙◌, subst, arith, inl, inr}
 use Rattle.std.specs.List.{list_any, AllByRecursion}
-use Rattle.std.proofs.lemmas.Bool.{cond_both, leb-true, or_cases}
+use Rattle.std.proofs.lemmas.Bool.{cond_both, leb-true, or_cases, and_from}
 use Rattle.eris_base.specs.declared.ids.Epoch.{Epoch}
-use Rattle.eris_base.specs.declared.ids.Node.{Node}
 use Rattle.eris_base.specs.declared.ids.Phase.{Phase}
 use Rattle.eris_base.specs.declared.ids.Phase.TheVariants.{Whole, Prelim, Conclude}
 use Rattle.eris_base.specs.Each.{Each}
@@ -22,8 +21,8 @@ use Rattle.eris_msg.specs.declared.outgoing.Outgoing.{Outgoing}
 use Rattle.eris_msg.specs.Fields as f
 use Rattle.eris_msg.specs.Ranges.{HeldInRange}
 use Rattle.eris_msg.proofs.MessageFits as m
-use Rattle.eris_rules.specs.EpochMessages.{EpochMessage, EpochSend, send_each}
-use Rattle.eris_rules.specs.Outer.{outer, outer_sends}
+use Rattle.eris_rules.specs.EpochMessages.{EpochSend}
+use Rattle.eris_rules.specs.Outer.{outer_sends}
 use Rattle.eris_rules.specs.ReplicaAnswers.{is_open, open_packet, open_at, open_upto, log_upto, late_answers, answer_after}
 use Rattle.eris_rules.specs.ReplicaStates.{Member, EpochReplica, is_learner}
 use Rattle.eris_rules.specs.Settling.{late_for, tells_late}
@@ -33,13 +32,8 @@ use Rattle.eris_range_law.specs.Fitting.{PartIsRight, HeldIsRight, MemberFits, S
 use Rattle.eris_answer_law.specs.Answering.{PacketIsRight, DoneFits, KeptFits}
 use Rattle.eris_answer_law.proofs.AnswerRanges.{late_answers-fit, answer_after-fits}
 use Rattle.eris_range_law.proofs.PartRanges.{number_from, number_below, place_from, packet_stamp, packet_id}
-use Rattle.eris_answer_law.proofs.FieldTests.{both}
 
 -- ---- sends
-pub each_sent : (epoch : Epoch) (nodes : List Node) (message : EpochMessage) → MessageFits (outer epoch message) → SendsFit (outer_sends epoch (send_each nodes message))
-each_sent epoch [] message h = tt
-each_sent epoch (node ∷ nodes) message h = (h, each_sent epoch nodes message h)
-
 pub sent_also : (epoch : Epoch) (some more : List EpochSend) → SendsFit (outer_sends epoch some) → SendsFit (outer_sends epoch more) → SendsFit (outer_sends epoch (some ++ more))
 sent_also epoch some more h k =
     subst SendsFit (sym (outer_sends-append epoch some more))
@@ -92,7 +86,7 @@ module _ (me : Member) (epoch : Epoch) (fits : MemberFits me epoch) where
     pub gap-fits : has_gap part ≡ true → SendsFit (outer_sends epoch (find_gap me part ∷ []))
     gap-fits h =
         let place = own_place part (length_of part + 1) in
-        (m.find_fits me.replica place ∙ both (f.replica.fits me.replica) (f.place.fits place) fits.replica (place_from place right.fits.ranges.of_epoch right.fits.ranges.of_shard (gap_number h)), tt)
+        (m.find_fits me.replica place ∙ and_from (f.replica.fits me.replica) (f.place.fits place) fits.replica (place_from place right.fits.ranges.of_epoch right.fits.ranges.of_shard (gap_number h)), tt)
 
   module _ (state : EpochReplica) (h : StateFits epoch me.shard state) where
     -- ---- to clients
@@ -100,7 +94,7 @@ module _ (me : Member) (epoch : Epoch) (fits : MemberFits me epoch) where
     late_sent [] k = tt
     late_sent (done ∷ dones) k = (
       m.late_fits me.shard me.replica done.id done.phase done.answer
-          ∙ both (f.shard.fits me.shard) _ fits.shard (both (f.replica.fits me.replica) _ fits.replica (both (f.id.fits done.id) _ k.0.id (both (f.phase.fits done.phase) (f.answer.fits done.answer) (phase-fits done.phase) k.0.answer))),
+          ∙ and_from (f.shard.fits me.shard) _ fits.shard (and_from (f.replica.fits me.replica) _ fits.replica (and_from (f.id.fits done.id) _ k.0.id (and_from (f.phase.fits done.phase) (f.answer.fits done.answer) (phase-fits done.phase) k.0.answer))),
       late_sent dones k.1,
     )
 
@@ -114,9 +108,9 @@ module _ (me : Member) (epoch : Epoch) (fits : MemberFits me epoch) where
     replied-fits packet None k a = tt
     replied-fits packet (Some answer) k a = (
       m.reply_fits state.view me.shard me.replica packet.stamp packet.id (phase_of packet.body) answer
-          ∙ both (f.view.fits state.view) _ h.view (both (f.shard.fits me.shard) _ fits.shard (both (f.replica.fits me.replica) _ fits.replica
-          (both (f.stamp.fits packet.stamp) _ (packet_stamp packet k.fits) (both (f.id.fits packet.id) _ (packet_id packet k.fits)
-          (both (f.phase.fits (phase_of packet.body)) (f.answer.fits answer) (phase-fits (phase_of packet.body)) a))))),
+          ∙ and_from (f.view.fits state.view) _ h.view (and_from (f.shard.fits me.shard) _ fits.shard (and_from (f.replica.fits me.replica) _ fits.replica
+          (and_from (f.stamp.fits packet.stamp) _ (packet_stamp packet k.fits) (and_from (f.id.fits packet.id) _ (packet_id packet k.fits)
+          (and_from (f.phase.fits (phase_of packet.body)) (f.answer.fits answer) (phase-fits (phase_of packet.body)) a))))),
       tt,
     )
 
@@ -128,8 +122,8 @@ module _ (me : Member) (epoch : Epoch) (fits : MemberFits me epoch) where
         (answer_after-fits me.shard (log_upto me.prior state.part (number - 1)) packet (log_upto-right state.part h.part (number - 1)) k named))
         (λ _. (
           m.vouch_fits state.view me.shard me.replica packet.stamp packet.id (phase_of packet.body)
-              ∙ both (f.view.fits state.view) _ h.view (both (f.shard.fits me.shard) _ fits.shard (both (f.replica.fits me.replica) _ fits.replica
-              (both (f.stamp.fits packet.stamp) _ (packet_stamp packet k.fits) (both (f.id.fits packet.id) (f.phase.fits (phase_of packet.body)) (packet_id packet k.fits) (phase-fits (phase_of packet.body)))))),
+              ∙ and_from (f.view.fits state.view) _ h.view (and_from (f.shard.fits me.shard) _ fits.shard (and_from (f.replica.fits me.replica) _ fits.replica
+              (and_from (f.stamp.fits packet.stamp) _ (packet_stamp packet k.fits) (and_from (f.id.fits packet.id) (f.phase.fits (phase_of packet.body)) (packet_id packet k.fits) (phase-fits (phase_of packet.body)))))),
           tt,
         ))
 

@@ -1,6 +1,6 @@
 -- The rows for settling keep to the messages' ranges.
 use Rattle.std.proofs.Common.{◌≡◌, ◌<◌, ◌≤◌, ◌^◌, ◌&&◌, ◌==◌, ℕ, true, not, nat_lt, List, ◌∙◌, arith}
-use Rattle.std.proofs.lemmas.Bool.{cond_both, ltb-true}
+use Rattle.std.proofs.lemmas.Bool.{cond_both, ltb-true, and_from}
 use Rattle.eris_base.specs.declared.ids.Epoch.{Epoch}
 use Rattle.eris_base.specs.declared.ids.Place.{Place}
 use Rattle.eris_base.specs.declared.ids.ReplicaId.{ReplicaId}
@@ -9,8 +9,11 @@ use Rattle.eris_base.specs.Each.{Each}
 use Rattle.eris_base.specs.Quorums.{same_replica}
 use Rattle.eris_log.specs.Entries.{length_of, covers}
 use Rattle.eris_in_place.specs.MessageRanges.{SendsFit}
+use Rattle.eris_in_place.proofs.SendLaws.{each_sent}
 use Rattle.eris_msg.specs.Fields as f
 use Rattle.eris_msg.proofs.MessageFits as m
+use Rattle.eris_msg.proofs.RangeLaws.{word_fits}
+use Rattle.eris_msg.proofs.Sizes.{word_below}
 use Rattle.eris_rules.specs.EpochMessages.{Exchanges, Settled, SyncAsk, send_each}
 use Rattle.eris_rules.specs.Outer.{outer_sends}
 use Rattle.eris_rules.specs.ReplicaStates.{Member, EpochReplica, EpochOut, quiet, is_learner, others}
@@ -19,10 +22,9 @@ use Rattle.eris_rules.specs.Views.{enters_view}
 use Rattle.eris_view.specs.AckTallies.{with_ack}
 use Rattle.eris_view.proofs.Acks.{IsSettled-settled}
 use Rattle.eris_range_law.specs.Fitting.{PlaceIsRight, MemberFits, StateFits, RowFits}
-use Rattle.eris_range_law.proofs.PartRanges.{number_from, word_from, word_under, length_of-below, perm-fits, mark_all_dropped-right}
-use Rattle.eris_range_law.proofs.SendRanges.{each_sent, sent_also, tells_late-fits}
+use Rattle.eris_range_law.proofs.PartRanges.{number_from, length_of-below, perm-fits, mark_all_dropped-right}
+use Rattle.eris_range_law.proofs.SendRanges.{sent_also, tells_late-fits}
 use Rattle.eris_range_law.proofs.ViewRanges.{quiet-fits, enters_view-fits}
-use Rattle.eris_answer_law.proofs.FieldTests.{both}
 
 module _ (me : Member) (epoch : Epoch) (fits : MemberFits me epoch) where
   abbrev Fits : EpochReplica → Type 0
@@ -49,7 +51,7 @@ module _ (me : Member) (epoch : Epoch) (fits : MemberFits me epoch) where
   settles-fits : (state : EpochReplica) (number : ℕ) → Fits state → 1 ≤ number → number < 2 ^ 32 → Row (settles me state number)
   unfolding settles
   settles-fits state number h some few = record {
-    state = record { view = h.view; part = h.part; noted = h.noted; settled = word_from number few };
+    state = record { view = h.view; part = h.part; noted = h.noted; settled = word_fits number few };
     sends = sent_also epoch (tells_late me state number) (tells_settled me state number) (tells_late-fits me epoch fits state h number) (tells_settled-fits state number h (number_from number some few));
   }
 
@@ -76,8 +78,8 @@ module _ (me : Member) (epoch : Epoch) (fits : MemberFits me epoch) where
     state = h;
     sends = (
       m.ack_fits me.replica epoch state.view (length_of state.part)
-          ∙ both (f.replica.fits me.replica) _ fits.replica (both (f.epoch.fits epoch) _ fits.in_epoch (both (f.view.fits state.view) (f.word.fits (length_of state.part)) h.view
-          (word_from (length_of state.part) (length_of-below state.part h.part.fits)))),
+          ∙ and_from (f.replica.fits me.replica) _ fits.replica (and_from (f.epoch.fits epoch) _ fits.in_epoch (and_from (f.view.fits state.view) (f.word.fits (length_of state.part)) h.view
+          (word_fits (length_of state.part) (length_of-below state.part h.part.fits)))),
       tt,
     );
   }
@@ -125,7 +127,7 @@ module _ (me : Member) (epoch : Epoch) (fits : MemberFits me epoch) where
   unfolding repeats_settled
   repeats_settled-fits state h =
       cond_both (nat_lt 0 state.settled) (record { state = state; sends = tells_settled me state state.settled }) (quiet state) Row
-      (λ e. let lt = ltb-true 0 state.settled e in record { state = h; sends = tells_settled-fits state state.settled h (number_from state.settled (omega arith) (word_under state.settled h.settled)) })
+      (λ e. let lt = ltb-true 0 state.settled e in record { state = h; sends = tells_settled-fits state state.settled h (number_from state.settled (omega arith) (word_below state.settled h.settled)) })
       (λ _. still state h)
 
   raises_or_repeats-fits : (state : EpochReplica) → Fits state → Row (raises_or_repeats me state)
@@ -140,7 +142,7 @@ module _ (me : Member) (epoch : Epoch) (fits : MemberFits me epoch) where
     state = h.state;
     sends =
         sent_also epoch out.sends (send_each (others me) (Exchanges (SyncAsk out.state.view))) h.sends
-        (each_sent epoch (others me) (Exchanges (SyncAsk out.state.view)) (m.sync_ask_fits epoch out.state.view ∙ both (f.epoch.fits epoch) (f.view.fits out.state.view) fits.in_epoch h.state.view));
+        (each_sent epoch (others me) (Exchanges (SyncAsk out.state.view)) (m.sync_ask_fits epoch out.state.view ∙ and_from (f.epoch.fits epoch) (f.view.fits out.state.view) fits.in_epoch h.state.view));
   }
 
   pub sync_row-fits : (state : EpochReplica) → Fits state → Row (sync_row me state)

@@ -1,34 +1,32 @@
 -- The rows for view changes keep to the messages' ranges.
 use Rattle.std.proofs.Common.{◌≡◌, ◌<◌, ◌+◌, ◌-◌, ◌^◌, ◌&&◌, ◌==◌, ℕ, true, not, nat_lt, subst, arith}
 use Rattle.std.specs.List.{AllByRecursion}
-use Rattle.std.proofs.lemmas.Bool.{and_parts, cond_both, ltb-true, lt-ltb, eqb-true}
+use Rattle.std.proofs.lemmas.Bool.{and_parts, cond_both, ltb-true, lt-ltb}
 use Rattle.eris_base.specs.declared.ids.Epoch.{Epoch}
 use Rattle.eris_base.specs.declared.ids.ReplicaId.{ReplicaId}
 use Rattle.eris_base.specs.declared.ids.ShardId.{ShardId}
 use Rattle.eris_base.specs.declared.ids.View.{View}
 use Rattle.eris_base.specs.Quorums.{same_replica}
+use Rattle.eris_base.proofs.IdLaws.{shard_by_test}
 use Rattle.eris_log.specs.PartValues.{PartValue}
 use Rattle.eris_log.specs.Parts.{merge}
 use Rattle.eris_msg.specs.Fields as f
 use Rattle.eris_rules.specs.EpochMessages.{Exchanges, StartView}
 use Rattle.eris_rules.specs.ReplicaStates.{Member, EpochReplica, EpochOut, quiet, is_normal, is_learner, others}
 use Rattle.eris_rules.specs.Views.{entered, became_normal, shows_part, view_tally, starts_view, tests_view, enters_view, suspect_row, notes_part, tells_view, view_change_same, view_change_shown, is_shown_to, view_change_row, begins_here, takes_view, start_view_row}
+use Rattle.eris_in_place.proofs.SendLaws.{each_sent}
 use Rattle.eris_view.specs.ViewTallies.{is_ready, union_of, with_part}
 use Rattle.eris_range_law.specs.Fitting.{HeldIsRight, PartIsRight, PartCame, MemberFits, StateFits, RowFits}
 use Rattle.eris_range_law.proofs.PartRanges.{merge-right, union_of-right, with_part-right}
-use Rattle.eris_range_law.proofs.SendRanges.{each_sent}
 
 view_from : (number : ℕ) → number < 2 ^ 32 → f.view.fits (record { 0 = number }) ≡ true
 unfolding f.view f.word
 view_from number few = lt-ltb number (2 ^ 32) few
 
-shard_is : (some other : ShardId) → (some.0 == other.0) ≡ true → some ≡ other
-shard_is some other h = let e : some.0 ≡ other.0 = eqb-true some.0 other.0 h in λ i. record { 0 = e i }
-
 -- a part that came, and is of the own shard
 came_right : (epoch : Epoch) (shard : ShardId) (part : PartValue) → PartCame epoch part → (part.shard.0 == shard.0) ≡ true → PartIsRight epoch shard part
 came_right epoch shard part h e =
-    let own = shard_is part.shard shard e in
+    let own = shard_by_test part.shard shard e in
     record { own = record { in_epoch = h.of_epoch; on_shard = own }; fits = h.fits; held = subst (λ (s : ShardId). AllByRecursion (HeldIsRight s) part.held) own h.held }
 
 module _ (me : Member) (epoch : Epoch) (fits : MemberFits me epoch) where

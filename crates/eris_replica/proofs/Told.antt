@@ -1,22 +1,16 @@
 -- What a message that is in place tells of its kind, its sender and its epoch; used where a message is taken.
-use Rattle.std.proofs.Common.{◌≡◌, ◌+◌, ◌*◌, ℕ, true, List, [], ◌∷◌, refl, subst}
+use Rattle.std.proofs.Common.{◌≡◌, ◌+◌, ◌*◌, true, subst}
 use Rattle.std.proofs.lemmas.Bool.{and_parts, ltb-true}
 use Rattle.eris_base.specs.declared.ids.Epoch.{Epoch}
-use Rattle.eris_base.specs.declared.ids.Place.{Place}
-use Rattle.eris_base.specs.declared.ids.ShardId.{ShardId}
 use Rattle.eris_base.specs.ConfigLimits.{ConfigValue}
-use Rattle.eris_base.specs.Each.{Each}
 use Rattle.eris_member.specs.declared.input.MemberInput.{MemberInput}
 use Rattle.eris_member.specs.MemberInputs.{IsFor}
 use Rattle.eris_msg.specs.declared.message.Message.{Message}
 use Rattle.eris_rules.specs.InPlace.{is_for_replica, is_in_place_at_replica, is_sound}
 use Rattle.eris_rules.specs.Known.{knows_all}
-use Rattle.eris_rules.specs.Outer.{places_in}
+use Rattle.eris_rules.proofs.OuterLaws.{places_of_epoch}
+use Rattle.eris_rules.proofs.InPlaceLaws.{kind_in_place}
 use Rattle.eris_replica.specs.ReplicaValues.{IsSenderKnown}
-
-pub kind_in_place : (config : ConfigValue) (message : Message) → is_in_place_at_replica config message ≡ true → is_for_replica message ≡ true
-unfolding is_in_place_at_replica
-kind_in_place config message h = (and_parts (is_for_replica message) (is_sound config message) h).0
 
 known_in_place : (config : ConfigValue) (message : Message) → is_in_place_at_replica config message ≡ true → knows_all config message ≡ true
 unfolding is_in_place_at_replica is_sound
@@ -47,11 +41,6 @@ sender_known config (Message.StartEpoch epoch shard packets) h = tt
 
 pub sender_in_place : (config : ConfigValue) (message : Message) → is_in_place_at_replica config message ≡ true → IsSenderKnown config message
 sender_in_place config message h = sender_known config message (known_in_place config message h)
-
--- the places are of the epoch
-pub places_of_epoch : (epoch : Epoch) (pairs : List (ShardId × ℕ)) → Each (λ (place : Place). place.epoch ≡ epoch) (places_in epoch pairs)
-places_of_epoch epoch [] = tt
-places_of_epoch epoch (pair ∷ pairs) = (refl, places_of_epoch epoch pairs)
 
 -- what is of an epoch is of the own one, where that is the same
 pub is_for_own : (epoch own : Epoch) (config : ConfigValue) (input : MemberInput) → epoch ≡ own → IsFor epoch config input → IsFor own config input

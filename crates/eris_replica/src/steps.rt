@@ -3,18 +3,17 @@ ghost use Rattle.std.specs.Prelude.{◌≡◌, IfOk, IsTrue};
 ghost use Rattle.eris_member.specs.MemberInputs.{input_of, IsFor};
 ghost use Rattle.eris_rules.specs.EpochMessages.{Stamped};
 ghost use Rattle.eris_rules.specs.InPlace.{is_for_replica};
-ghost use Rattle.eris_rules.specs.Outer.{places_in};
 ghost use Rattle.eris_rules.specs.Replicas.{steps, takes_inner, takes, message_step, probe_step, timer_step, replica_step};
 ghost use Rattle.eris_replica.specs.ReplicaValues.{after, steps_if, IsSenderKnown};
 
 use crate::epochs::Epochs;
-use eris_base::{Epoch, NoMemory, Place, Row, ShardId};
+use eris_base::{Epoch, NoMemory, Row};
 use eris_in_place::is_in_place_at_replica;
+use eris_log::places::places_at;
 use eris_member::MemberInput;
 use eris_msg::{Message, Outgoing};
 use eris_rules::ReplicaInput;
 use eris_txn::Packet;
-use std::alloc::Global;
 
 impl Epochs {
     /// The replica's step by an input.
@@ -155,7 +154,7 @@ impl Epochs {
                 number,
                 places,
             } => {
-                let places = places_in(self.alloc, epoch, places.as_slice())?;
+                let places = places_at(self.alloc, epoch, places.as_slice())?;
                 let input = MemberInput::Settled {
                     view,
                     number,
@@ -180,19 +179,4 @@ impl Epochs {
             | Message::EpochState { .. } => Ok(Row::new(self.alloc)),
         }
     }
-}
-
-/// The places of these shards and numbers in the epoch.
-fn places_in(alloc: Global, epoch: Epoch, pairs: &[(ShardId, u32)]) -> Result<Row<Place>, NoMemory>
-    ensures { IfOk result (λ places. places ≡ places_in epoch pairs.now) }
-{
-    let mut places = Row::new(alloc);
-    for (shard, number) in pairs {
-        places.push(Place {
-            epoch,
-            shard: *shard,
-            number: *number,
-        })?;
-    }
-    Ok(places)
 }

@@ -1,5 +1,5 @@
 pub mod OuterLaws
-mod Opened
+pub mod Opened
 mod ExampleWords
 mod PlainExamples
 mod DropExamples
@@ -7,3 +7,6 @@ mod ViewExamples
 mod GeneralExamples
 mod EpochExamples
 mod RefusalExamples
+pub mod ClientIds
+pub mod InPlaceLaws
+pub mod RunLaws

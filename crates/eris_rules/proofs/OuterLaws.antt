@@ -5,22 +5,28 @@ use Rattle.eris_base.specs.declared.ids.Node.{Node}
 use Rattle.eris_base.specs.declared.ids.Place.{Place}
 use Rattle.eris_base.specs.declared.ids.ShardId.{ShardId}
 use Rattle.eris_base.specs.Each.{Each}
+use Rattle.eris_log.specs.Places.{pairs_of, places_at}
 use Rattle.eris_msg.specs.declared.message.Message.{Message}
 use Rattle.eris_msg.specs.declared.outgoing.Outgoing.{Outgoing}
 use Rattle.eris_rules.specs.EpochMessages.{EpochSend, send_each, EpochMessage, Stamped, Instructs, Notifies, Exchanges, Responds, Request, Found, Dropped, Find, Has, TempDropped, ViewChange, StartView, SyncAsk, Ack, Settled, Vouch, Reply, Late}
-use Rattle.eris_rules.specs.Outer.{places_in, pairs_of, outer, outer_send, outer_sends, tell_each, Inner, said_in, inner_of, IsOf}
+use Rattle.eris_rules.specs.Outer.{outer, outer_send, outer_sends, tell_each, Inner, said_in, inner_of, IsOf}
 
 -- shards and numbers come back from the places that they are made into
-pub pairs_of-places_in : (epoch : Epoch) (pairs : List (ShardId × ℕ)) → pairs_of (places_in epoch pairs) ≡ pairs
-pairs_of-places_in epoch [] = refl
-pairs_of-places_in epoch (pair ∷ pairs) = ap (λ rest. pair ∷ rest) (pairs_of-places_in epoch pairs)
+pub pairs_of-places_at : (epoch : Epoch) (pairs : List (ShardId × ℕ)) → pairs_of (places_at epoch pairs) ≡ pairs
+pairs_of-places_at epoch [] = refl
+pairs_of-places_at epoch (pair ∷ pairs) = ap (λ rest. pair ∷ rest) (pairs_of-places_at epoch pairs)
 
 -- and places of the epoch from their shards and numbers
-pub places_in-pairs_of : (epoch : Epoch) (places : List Place) → Each (λ place. place.epoch ≡ epoch) places → places_in epoch (pairs_of places) ≡ places
-places_in-pairs_of epoch [] facts = refl
-places_in-pairs_of epoch (place ∷ places) facts =
-    ap (λ (first : Epoch). record { epoch = first; shard = place.shard; number = place.number } ∷ places_in epoch (pairs_of places)) (sym facts.0)
-    ∙ ap (λ (rest : List Place). place ∷ rest) (places_in-pairs_of epoch places facts.1)
+pub places_at-pairs_of : (epoch : Epoch) (places : List Place) → Each (λ place. place.epoch ≡ epoch) places → places_at epoch (pairs_of places) ≡ places
+places_at-pairs_of epoch [] facts = refl
+places_at-pairs_of epoch (place ∷ places) facts =
+    ap (λ (first : Epoch). record { epoch = first; shard = place.shard; number = place.number } ∷ places_at epoch (pairs_of places)) (sym facts.0)
+    ∙ ap (λ (rest : List Place). place ∷ rest) (places_at-pairs_of epoch places facts.1)
+
+-- which are of that epoch
+pub places_of_epoch : (epoch : Epoch) (pairs : List (ShardId × ℕ)) → Each (λ (place : Place). place.epoch ≡ epoch) (places_at epoch pairs)
+places_of_epoch epoch [] = tt
+places_of_epoch epoch (pair ∷ pairs) = (refl, places_of_epoch epoch pairs)
 
 -- what is said in a message is sent by that message
 abbrev pub Sends : Message → Option Inner → Type 0
@@ -28,7 +34,7 @@ Sends message None = Unit {0}
 Sends message (Some inner) = outer inner.epoch inner.message ≡ message
 
 pub outer-inner_of : (message : Message) → Sends message (inner_of message)
-outer-inner_of (Message.Settled epoch view number places) = ap (λ (pairs : List (ShardId × ℕ)). Message.Settled epoch view number pairs) (pairs_of-places_in epoch places)
+outer-inner_of (Message.Settled epoch view number places) = ap (λ (pairs : List (ShardId × ℕ)). Message.Settled epoch view number pairs) (pairs_of-places_at epoch places)
 outer-inner_of (Message.Ask asker id body) = tt
 outer-inner_of (Message.Late shard replica id phase answer) = tt
 outer-inner_of (Message.NewEpoch shard replica epoch) = tt
@@ -50,7 +56,7 @@ inner_of-outer epoch (Exchanges (ViewChange replica view part)) is = ap (λ (e :
 inner_of-outer epoch (Exchanges (StartView view part)) is = ap (λ (e : Epoch). said_in e (Exchanges (StartView view part))) is
 inner_of-outer epoch (Exchanges (SyncAsk view)) is = refl
 inner_of-outer epoch (Exchanges (Ack replica view length)) is = refl
-inner_of-outer epoch (Exchanges (Settled view number places)) is = ap (λ (made : List Place). said_in epoch (Exchanges (Settled view number made))) (places_in-pairs_of epoch places is)
+inner_of-outer epoch (Exchanges (Settled view number places)) is = ap (λ (made : List Place). said_in epoch (Exchanges (Settled view number made))) (places_at-pairs_of epoch places is)
 inner_of-outer epoch (Responds (Vouch view shard replica stamp id phase)) is = ap (λ (e : Epoch). said_in e (Responds (Vouch view shard replica stamp id phase))) is
 inner_of-outer epoch (Responds (Reply view shard replica stamp id phase answer)) is = ap (λ (e : Epoch). said_in e (Responds (Reply view shard replica stamp id phase answer))) is
 inner_of-outer epoch (Responds (Late shard replica id phase answer)) is = absurd is

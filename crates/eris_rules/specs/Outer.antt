@@ -1,21 +1,12 @@
 -- The messages that nodes send each other, and the messages of one epoch in them.
-use Rattle.std.specs.Prelude.{◌≡◌, ℕ, Option, Some, None, List, map, ⊤}
+use Rattle.std.specs.Prelude.{◌≡◌, Option, Some, None, List, map, ⊤}
 use Rattle.eris_base.specs.declared.ids.Epoch.{Epoch}
 use Rattle.eris_base.specs.declared.ids.Node.{Node}
-use Rattle.eris_base.specs.declared.ids.Place.{Place}
-use Rattle.eris_base.specs.declared.ids.ShardId.{ShardId}
 use Rattle.eris_base.specs.Each.{Each}
+use Rattle.eris_log.specs.Places.{pairs_of, places_at}
 use Rattle.eris_msg.specs.declared.message.Message.{Message}
 use Rattle.eris_msg.specs.declared.outgoing.Outgoing.{Outgoing}
 use Rattle.eris_rules.specs.EpochMessages.{EpochMessage, Stamped, Instructs, Notifies, Exchanges, Responds, Instruction, Request, Found, Dropped, Notice, Find, Has, TempDropped, Exchange, ViewChange, StartView, SyncAsk, Ack, Settled, Response, Vouch, Reply, Late, EpochSend}
-
--- shards and numbers of an epoch, as places
-abbrev pub places_in : Epoch → List (ShardId × ℕ) → List Place
-places_in epoch pairs = map (λ pair. record { epoch = epoch; shard = pair.0; number = pair.1 }) pairs
-
--- places of one epoch, as shards and numbers
-abbrev pub pairs_of : List Place → List (ShardId × ℕ)
-pairs_of places = map (λ place. (place.shard, place.number)) places
 
 abbrev pub outer_instruction : Instruction → Message
 outer_instruction (Request place) = Message.Request place
@@ -84,7 +75,7 @@ inner_of (Message.ViewChange replica view part) = said_in part.epoch (Exchanges 
 inner_of (Message.StartView view part) = said_in part.epoch (Exchanges (StartView view part))
 inner_of (Message.SyncAsk epoch view) = said_in epoch (Exchanges (SyncAsk view))
 inner_of (Message.Ack replica epoch view length) = said_in epoch (Exchanges (Ack replica view length))
-inner_of (Message.Settled epoch view number places) = said_in epoch (Exchanges (Settled view number (places_in epoch places)))
+inner_of (Message.Settled epoch view number places) = said_in epoch (Exchanges (Settled view number (places_at epoch places)))
 inner_of (Message.NewEpoch shard replica epoch) = None
 inner_of (Message.EpochAsk epoch) = None
 inner_of (Message.EpochState replica epoch part) = None

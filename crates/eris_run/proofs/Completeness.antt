@@ -15,6 +15,7 @@ use Rattle.eris_rules.specs.Happenings.{happens}
 use Rattle.eris_rules.specs.Refusals.{refusal}
 use Rattle.eris_rules.specs.Runs.{run, run_from, taken_by, world_after}
 use Rattle.eris_rules.specs.Worlds.{WorldState, first_world}
+use Rattle.eris_rules.proofs.RunLaws.{none_run}
 use Rattle.eris_run.specs.declared.refused.Refused.{Refused}
 use Rattle.eris_run.specs.declared.refused.Why.{Why}
 use Rattle.eris_run.specs.declared.status.Status.TheVariants.{Done, TooLarge}
@@ -22,11 +23,6 @@ use Rattle.eris_run.specs.Calls.{input_limit, status_due, status_for}
 use Rattle.eris_run.specs.ScriptRuns.{after_event, after_events, after_header, after_line, after_lines, after_read, after_said, after_text, outcome, ran_in, told, unless}
 
 -- ---- a run is one with causes
-no_world : (config : ConfigValue) (events : List Event) (v : WorldState) → run_from config None events ≡ Some v → ⊥
-unfolding run_from
-no_world config [] v ran = cc
-no_world config (event ∷ events) v ran = cc
-
 is_ran : (config : ConfigValue) (w v : WorldState) (events : List Event) → run_from config (Some w) events ≡ Some v → after_events config w events ≡ Ok v
 unfolding after_events run_from world_after after_event
 is_ran config w v [] ran = let same : w ≡ v = cc in ap (λ (u : WorldState). Ok u) same
@@ -36,7 +32,7 @@ is_ran config w v (event ∷ events) ran = of_refusal (refusal config w event) (
         → run_from config (taken_by (happens config w event) found) events ≡ Some v
         → (elim (unless found (happens config w event)) as (λ _. Result WorldState Refusal) [ Ok next ↦ after_events config next events | Err why ↦ Err why ]) ≡ Ok v
     of_refusal None later rest = later (happens config w event) rest
-    of_refusal (Some why) later rest = absurd (no_world config events v rest)
+    of_refusal (Some why) later rest = absurd (none_run config events v rest)
 
 -- ---- a run of two lists stops between them
 record Between (config : ConfigValue) (w v : WorldState) (xs ys : List Event) : Type 0 where

@@ -21,6 +21,7 @@ use Rattle.eris_rules.specs.Runs.{taken_by, world_after}
 use Rattle.eris_rules.specs.Worlds.{WorldState, first_world}
 use Rattle.eris_sequencer.specs.Sequencers.{first_stampings, newest_of}
 use Rattle.eris_world.specs.WorldValues.{CanGoOn, EventFits, HasRoom, IsCause, WorldValue}
+use Rattle.eris_world.proofs.Events.{second_none}
 use Rattle.eris_run.specs.declared.refused.Refused.{Refused}
 use Rattle.eris_run.specs.declared.refused.Stop.{Stop}
 use Rattle.eris_run.specs.declared.refused.Stop.TheVariants as stop
@@ -38,10 +39,6 @@ unfolding newest_of
 can_go_on world few = record { clients = rooms world.clients (omega arith); epochs = omega arith }
 
 -- ---- one event
-within_limits : (causes : Option Refusal) (limits : Option Refusal) → option_or causes limits ≡ None → limits ≡ None
-within_limits None limits none = none
-within_limits (Some cause) limits none = absurd cc
-
 -- an event that isn't refused
 pub record Taken (config : ConfigValue) (world next : WorldState) (event : Event) : Type 0 where
   pub after : after_event config world event ≡ Ok next
@@ -57,7 +54,7 @@ taken config world next event took = of_refusal (option_or (cause config world e
         let same : happens config world event ≡ next = cc in
         record {
           after = ap (λ (found : Option Refusal). unless found (happens config world event)) is ∙ ap (λ (w : WorldState). Ok w) same;
-          within = subst (λ (w : WorldState). limit_met w.sent ≡ None) same (within_limits (cause config world event) _ is);
+          within = subst (λ (w : WorldState). limit_met w.sent ≡ None) same (second_none (cause config world event) _ is);
           few = subst (λ (w : WorldState). begun w ≤ begun world + cost event) same (event_adds config world event);
         }
     of_refusal (Some why) is took = absurd cc

@@ -2,61 +2,13 @@
 use Rattle.std.specs.Prelude.{ℕ}
 use Rattle.eris_agreement.specs.Alone as agreement_alone
 use Rattle.eris_agreement.specs.WorldMoments as agreement_world_moments
-use Rattle.eris_base.specs.TxnIds as base_txn_ids
-use Rattle.eris_epoch.specs.Closing as epoch_closing
-use Rattle.eris_epoch.specs.EpochTallies as epoch_epoch_tallies
-use Rattle.eris_epoch.specs.SamePackets as epoch_same_packets
-use Rattle.eris_epoch.specs.Sorting as epoch_sorting
-use Rattle.eris_msg.specs.Fields as msg_fields
-use Rattle.eris_msg.specs.Messages as msg_messages
-use Rattle.eris_msg.specs.Parts as msg_parts
-use Rattle.eris_rules.specs.ClientStates as rules_client_states
-use Rattle.eris_rules.specs.Clients as rules_clients
-use Rattle.eris_rules.specs.CoordStates as rules_coord_states
-use Rattle.eris_rules.specs.Coordinators as rules_coordinators
-use Rattle.eris_rules.specs.Good as rules_good
-use Rattle.eris_rules.specs.Happenings as rules_happenings
-use Rattle.eris_rules.specs.InPlace as rules_in_place
-use Rattle.eris_rules.specs.Known as rules_known
-use Rattle.eris_rules.specs.Refusals as rules_refusals
-use Rattle.eris_rules.specs.ReplicaStates as rules_replica_states
-use Rattle.eris_rules.specs.Replicas as rules_replicas
-use Rattle.eris_rules.specs.Runs as rules_runs
-use Rattle.eris_rules.specs.Votes as rules_votes
-use Rattle.eris_rules.specs.WorldOrders as rules_world_orders
-use Rattle.eris_rules.specs.Worlds as rules_worlds
-use Rattle.eris_sequencer.specs.Asks as sequencer_asks
-use Rattle.eris_txn.specs.Keys as txn_keys
 use Rattle.eris_key_law.proofs.Opened.{all_definitions}
-
-unfoldable pub of_base : ℕ
-unfolding base_txn_ids.same_id
-of_base = 0
-
-unfoldable pub of_txn : ℕ
-unfolding txn_keys.same_key
-of_txn = 0
-
-unfoldable pub of_epoch : ℕ
-unfolding epoch_closing.held_of epoch_closing.held_in epoch_closing.undropped epoch_closing.with_new epoch_closing.each_once epoch_closing.by_places epoch_closing.close epoch_closing.shard_log epoch_epoch_tallies.no_notes epoch_epoch_tallies.with_noted epoch_epoch_tallies.note_state epoch_epoch_tallies.replicas_of epoch_epoch_tallies.is_heard epoch_epoch_tallies.are_heard epoch_epoch_tallies.is_ready epoch_same_packets.same_list epoch_same_packets.same_op epoch_same_packets.same_mode epoch_same_packets.same_lock epoch_same_packets.same_write epoch_same_packets.same_body epoch_same_packets.same_place_on epoch_same_packets.same_stamp epoch_same_packets.same_packet epoch_same_packets.is_listed epoch_sorting.sorted
-of_epoch = 0
-
-unfoldable pub of_msg : ℕ
-unfolding msg_fields.byte msg_fields.word msg_fields.value msg_fields.from_to msg_fields.number msg_fields.shard msg_fields.replica msg_fields.client msg_fields.epoch msg_fields.view msg_fields.phase msg_fields.id msg_fields.place msg_fields.shard_before msg_fields.stamp_place msg_fields.stamp msg_fields.name msg_fields.key msg_fields.spell_op msg_fields.op_fits msg_fields.op_behind msg_fields.op msg_fields.ops msg_fields.keys msg_fields.mode msg_fields.lock msg_fields.locks msg_fields.write msg_fields.writes msg_fields.spell_body msg_fields.body_fits msg_fields.body_behind msg_fields.body msg_fields.packet msg_fields.packets msg_fields.spell_op_answer msg_fields.op_answer_fits msg_fields.op_answer_behind msg_fields.op_answer msg_fields.op_answers msg_fields.spell_found msg_fields.found_fits msg_fields.found_behind msg_fields.found msg_fields.values msg_fields.spell_answer msg_fields.answer_fits msg_fields.answer_behind msg_fields.answer msg_messages.ask msg_messages.vouch msg_messages.reply msg_messages.late msg_messages.find msg_messages.temp_dropped msg_messages.view_change msg_messages.start_view msg_messages.sync_ask msg_messages.ack msg_messages.settled msg_messages.new_epoch msg_messages.epoch_state msg_messages.start_epoch msg_messages.spell_kind msg_messages.kind_fits msg_messages.kind_behind msg_messages.message msg_parts.listed_place msg_parts.places msg_parts.held_packet msg_parts.held msg_parts.places_at msg_parts.pairs_of msg_parts.part_of_epoch msg_parts.part
-of_msg = 0
-
-unfoldable pub of_sequencer : ℕ
-unfolding sequencer_asks.sends_to sequencer_asks.sends_of sequencer_asks.sends_stamped sequencer_asks.stamp_message sequencer_asks.asked_by sequencer_asks.ask
-of_sequencer = 0
-
-unfoldable pub of_rules : ℕ
-unfolding rules_client_states.first_client rules_client_states.transaction_at rules_client_states.with_transaction rules_client_states.begun_half rules_clients.begins_half rules_clients.submit rules_clients.asks_again rules_clients.retry rules_clients.abort rules_clients.finishes rules_clients.all_op_answers rules_clients.all_values rules_clients.is_executed rules_clients.concludes rules_clients.has_read rules_clients.has_concluded rules_clients.is_told rules_clients.goes_on rules_clients.hears_vote_of rules_clients.vote_row rules_clients.hears_late_of rules_clients.late_row rules_clients.client_step rules_coord_states.begun_epoch rules_coord_states.first_coordinator rules_coordinators.coord_steps_in rules_coordinators.starts rules_coordinators.takes_elsewhere rules_coordinators.coord_takes_inner rules_coordinators.raises_target rules_coordinators.new_epoch_above rules_coordinators.new_epoch_row rules_coordinators.left_behind rules_coordinators.after_closing rules_coordinators.starts_shard rules_coordinators.starts_all rules_coordinators.closes rules_coordinators.tests_closing rules_coordinators.notes_state rules_coordinators.epoch_state_late rules_coordinators.epoch_state_row rules_coordinators.coord_takes rules_coordinators.coord_message_step rules_coordinators.nudge_step rules_coordinators.coord_step rules_good.kept_at rules_good.kept_upto rules_good.settled_log rules_happenings.after_replica rules_happenings.replica_takes rules_happenings.after_coordinator rules_happenings.coordinator_takes rules_happenings.after_sequencer rules_happenings.sequencer_takes rules_happenings.after_client rules_happenings.client_acts rules_happenings.delivers rules_happenings.submitted_at rules_happenings.happens rules_in_place.names_exactly rules_in_place.all_name_participants rules_in_place.is_right_part rules_in_place.all_name_shard rules_in_place.ascend_on rules_in_place.all_below rules_in_place.is_sound rules_in_place.is_in_place_at_replica rules_in_place.is_in_place_at_coordinator rules_in_place.is_in_place_at_client rules_known.knows_pairs rules_known.knows_places rules_known.knows_keys rules_known.knows_writes rules_known.knows_body rules_known.knows_packet rules_known.knows_packets rules_known.knows_held rules_known.knows_part rules_known.knows_all rules_refusals.submit_cause rules_refusals.retry_cause rules_refusals.abort_cause rules_refusals.delivery_cause rules_refusals.timer_cause rules_refusals.is_message rules_refusals.noise_cause rules_refusals.cause rules_refusals.frame_size rules_refusals.frame_sizes rules_refusals.limit_met rules_refusals.refusal rules_replica_states.begun rules_replica_states.first_state rules_replicas.steps_in rules_replicas.steps rules_replicas.asks_start rules_replicas.later_txn rules_replicas.takes_inner rules_replicas.may_promise rules_replicas.promises rules_replicas.epoch_ask_row rules_replicas.may_begin rules_replicas.start_epoch_row rules_replicas.takes rules_replicas.message_step rules_replicas.probe_step rules_replicas.timer_step rules_replicas.replica_step rules_runs.world_after rules_runs.run_from rules_runs.run rules_votes.vote_fits rules_votes.late_fits rules_votes.waits_for rules_votes.agrees_with rules_votes.answer_by_votes rules_votes.with_counted rules_votes.with_vote rules_votes.with_late rules_votes.is_complete rules_world_orders.stamping_list rules_world_orders.is_held_by rules_world_orders.is_held_in rules_world_orders.survives_now rules_world_orders.survives rules_world_orders.order rules_world_orders.lines_of_world rules_world_orders.order_on rules_worlds.first_replicas rules_worlds.first_world rules_worlds.client_at rules_worlds.has_crashed rules_worlds.with_sends rules_worlds.no_longer_waiting
-of_rules = 0
+use Rattle.eris_rules.proofs.Opened as rules_opened
 
 unfoldable pub of_agreement : ℕ
 unfolding agreement_world_moments.moment_from agreement_alone.state_of
 of_agreement = 0
 
 unfoldable pub all_rules : ℕ
-unfolding all_definitions of_base of_txn of_epoch of_msg of_sequencer of_rules of_agreement
+unfolding all_definitions rules_opened.all_rules of_agreement
 all_rules = 0

@@ -1,12 +1,12 @@
 -- Numbers, names of nodes and transactions, and keys are read as just what they spell.
-use Rattle.std.proofs.Common.{◌≡◌, ℕ, suc, ◌+◌, ◌-◌, ◌^◌, ◌<◌, ◌≤◌, ◌≢◌, Bool, true, false, not, cond, ◌==◌, ◌&&◌, nat_le, Option, Some, None, List, [], ◌∷◌, ◌++◌, length, take, drop, refl, sym, ap, ◌∙◌, append_assoc, arith, lit<, one-add, inl, inr}
+use Rattle.std.proofs.Common.{◌≡◌, ℕ, suc, ◌+◌, ◌-◌, ◌^◌, ◌<◌, ◌≢◌, Bool, true, false, not, cond, ◌==◌, ◌&&◌, nat_le, Option, Some, None, List, [], ◌∷◌, ◌++◌, length, take, drop, refl, sym, ap, ◌∙◌, append_assoc, arith, lit<, one-add, inl, inr}
 use Rattle.std.specs.Char.{is_digit}
 use Rattle.std.specs.List.{before_first, after_first, position_or_len, list_all}
 use Rattle.std.proofs.Math.ListN.{drop_of_length-le}
 use Rattle.std.proofs.Math.Seq.{take-append_seam, drop-append-add}
-use Rattle.std.proofs.lemmas.Bool.{cases_lt, eqb-true}
-use Rattle.std.proofs.lemmas.Bool.Decides.{nat_tests}
+use Rattle.std.proofs.lemmas.Bool.{cases_lt, eqb-true, and_from, leb-true, le-leb}
 use Rattle.std.proofs.lemmas.List.Sums.{split_at_first, passes_at_first}
+use Rattle.eris_base.proofs.Booleans.{left_of, right_of}
 use Rattle.eris_txn.specs.declared.key.Key.{Key}
 use Rattle.eris_txn.specs.Names.{is_name, is_name_byte}
 use Rattle.eris_script.specs.declared.reason.Reason.TheVariants as reason
@@ -16,7 +16,7 @@ use Rattle.eris_script.specs.Fields.{number, count, value, client, is_dot, dotte
 use Rattle.eris_script.specs.Forms.{Form, named}
 use Rattle.eris_script.specs.Words.{key_word}
 use Rattle.eris_script.proofs.DecimalLaws.{digits_of_decimal, read_decimal-decimal, read_decimal_only}
-use Rattle.eris_script.proofs.FormLaws.{is_plain, both, left_of, right_of, IsForm, IsWord, is_one_word, is_pair, is_named}
+use Rattle.eris_script.proofs.FormLaws.{is_plain, IsForm, IsWord, is_one_word, is_pair, is_named}
 
 -- BYTES THAT A WORD LACKS
 
@@ -31,14 +31,14 @@ lacks_one byte other test never holds false found = refl
 pub lacks : (test : ℕ → Bool) (other : ℕ) → test other ≡ false → (word : List ℕ) → list_all test word ≡ true → list_all (λ byte. not (byte == other)) word ≡ true
 lacks test other never [] all = refl
 lacks test other never (byte ∷ word) all =
-    both (not (byte == other)) (list_all (λ byte. not (byte == other)) word)
+    and_from (not (byte == other)) (list_all (λ byte. not (byte == other)) word)
     (lacks_one byte other test never (left_of (test byte) (list_all test word) all) (byte == other) (eqb-true byte other))
     (lacks test other never word (right_of (test byte) (list_all test word) all))
 
 all-append : (test : ℕ → Bool) (xs ys : List ℕ) → list_all test xs ≡ true → list_all test ys ≡ true → list_all test (xs ++ ys) ≡ true
 all-append test [] ys left right = right
 all-append test (x ∷ xs) ys left right =
-    both (test x) (list_all test (xs ++ ys)) (left_of (test x) (list_all test xs) left) (all-append test xs ys (right_of (test x) (list_all test xs) left) right)
+    and_from (test x) (list_all test (xs ++ ys)) (left_of (test x) (list_all test xs) left) (all-append test xs ys (right_of (test x) (list_all test xs) left) right)
 
 abbrev digit : ℕ → Bool
 digit byte = is_digit byte 10
@@ -75,17 +75,11 @@ cut_apart at word some = elim (cases_lt (position_or_len (λ byte. byte == at) w
 
 -- NUMBERS
 
-pub le_true : (n limit : ℕ) → n ≤ limit → nat_le n limit ≡ true
-le_true n limit le = grind (arith, nat_tests)
-
-pub true_le : (n limit : ℕ) → nat_le n limit ≡ true → n ≤ limit
-true_le n limit fine = grind (arith, nat_tests)
-
 number_word : (limit : ℕ) → limit < 2 ^ 64 → IsWord decimal (read_decimal limit) (λ n. nat_le n limit)
 number_word limit small = record {
-  takes = λ word n read. let d = read_decimal_only limit word n small read in (d.0, le_true n limit d.1);
-  again = λ n fine. read_decimal-decimal limit n small (true_le n limit fine);
-  plain = λ n fine. let le = true_le n limit fine in decimal_lacks 32 n refl (omega arith);
+  takes = λ word n read. let d = read_decimal_only limit word n small read in (d.0, le-leb n limit d.1);
+  again = λ n fine. read_decimal-decimal limit n small (leb-true n limit fine);
+  plain = λ n fine. let le = leb-true n limit fine in decimal_lacks 32 n refl (omega arith);
 }
 
 pub is_number : (limit : ℕ) → limit < 2 ^ 64 → IsForm (number limit)
@@ -124,11 +118,11 @@ dotted_as_word first second small few = record {
       let some : after_first is_dot word ≢ [] = λ none. no_number second p.1 (sym (ap (read_decimal second) none) ∙ parts.1) in (
         cut_apart 46 word some ∙ ap (λ front. front ++ 46 ∷ after_first is_dot word) a.0 ∙ ap (λ rest. decimal p.0 ++ 46 ∷ rest) b.0
             ∙ sym (append_assoc (decimal p.0) (46 ∷ []) (decimal p.1)),
-        both (nat_le p.0 first) (nat_le p.1 second) (le_true p.0 first a.1) (le_true p.1 second b.1),
+        and_from (nat_le p.0 first) (nat_le p.1 second) (le-leb p.0 first a.1) (le-leb p.1 second b.1),
       );
   again = λ p fine.
-      let a = true_le p.0 first (left_of (nat_le p.0 first) (nat_le p.1 second) fine) in
-      let b = true_le p.1 second (right_of (nat_le p.0 first) (nat_le p.1 second) fine) in
+      let a = leb-true p.0 first (left_of (nat_le p.0 first) (nat_le p.1 second) fine) in
+      let b = leb-true p.1 second (right_of (nat_le p.0 first) (nat_le p.1 second) fine) in
       let lacking = decimal_lacks 46 p.0 refl (omega arith) in
       ap (read_dotted first second) (append_assoc (decimal p.0) (46 ∷ []) (decimal p.1))
       ∙ ap (λ front. both_of (read_decimal first front) (read_decimal second (after_first is_dot (decimal p.0 ++ 46 ∷ decimal p.1)))) (before-cut is_dot (decimal p.0) (decimal p.1) 46 lacking refl)
@@ -136,8 +130,8 @@ dotted_as_word first second small few = record {
       ∙ ap (λ n. both_of n (read_decimal second (decimal p.1))) (read_decimal-decimal first p.0 small a)
       ∙ ap (λ n. both_of (Some p.0) n) (read_decimal-decimal second p.1 few b);
   plain = λ p fine.
-      let a = true_le p.0 first (left_of (nat_le p.0 first) (nat_le p.1 second) fine) in
-      let b = true_le p.1 second (right_of (nat_le p.0 first) (nat_le p.1 second) fine) in
+      let a = leb-true p.0 first (left_of (nat_le p.0 first) (nat_le p.1 second) fine) in
+      let b = leb-true p.1 second (right_of (nat_le p.0 first) (nat_le p.1 second) fine) in
       ap is_plain (append_assoc (decimal p.0) (46 ∷ []) (decimal p.1))
       ∙ all-append (λ byte. not (is_space byte)) (decimal p.0) (46 ∷ decimal p.1) (decimal_lacks 32 p.0 refl (omega arith)) (decimal_lacks 32 p.1 refl (omega arith));
 }
@@ -220,11 +214,11 @@ key_as_word version = record {
       let some : after_first is_slash word ≢ [] = λ none. no_name (sym (ap is_name none) ∙ parts.2) in (
         cut_apart 47 word some ∙ ap (λ front. front ++ 47 ∷ after_first is_slash word) a.0 ∙ ap (λ rest. decimal k.shard.0 ++ 47 ∷ rest) parts.1
             ∙ sym (append_assoc (decimal k.shard.0) (47 ∷ []) k.name),
-        both (nat_le k.shard.0 (last_shard version)) (is_name k.name) (le_true k.shard.0 (last_shard version) a.1) (sym (ap is_name parts.1) ∙ parts.2),
+        and_from (nat_le k.shard.0 (last_shard version)) (is_name k.name) (le-leb k.shard.0 (last_shard version) a.1) (sym (ap is_name parts.1) ∙ parts.2),
       );
   again = λ k fine.
       let few = few_shards version in
-      let a = true_le k.shard.0 (last_shard version) (left_of (nat_le k.shard.0 (last_shard version)) (is_name k.name) fine) in
+      let a = leb-true k.shard.0 (last_shard version) (left_of (nat_le k.shard.0 (last_shard version)) (is_name k.name) fine) in
       let named : is_name k.name ≡ true = right_of (nat_le k.shard.0 (last_shard version)) (is_name k.name) fine in
       let lacking = decimal_lacks 47 k.shard.0 refl (omega arith) in
       ap (read_key version) (append_assoc (decimal k.shard.0) (47 ∷ []) k.name)
@@ -234,7 +228,7 @@ key_as_word version = record {
       ∙ ap (λ test. cond test (Some (record { shard = k.shard; name = k.name })) None) named;
   plain = λ k fine.
       let few = few_shards version in
-      let a = true_le k.shard.0 (last_shard version) (left_of (nat_le k.shard.0 (last_shard version)) (is_name k.name) fine) in
+      let a = leb-true k.shard.0 (last_shard version) (left_of (nat_le k.shard.0 (last_shard version)) (is_name k.name) fine) in
       let named : is_name k.name ≡ true = right_of (nat_le k.shard.0 (last_shard version)) (is_name k.name) fine in
       ap is_plain (append_assoc (decimal k.shard.0) (47 ∷ []) k.name)
       ∙ all-append (λ byte. not (is_space byte)) (decimal k.shard.0) (47 ∷ k.name) (decimal_lacks 32 k.shard.0 refl (omega arith))

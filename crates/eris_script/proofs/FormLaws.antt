@@ -1,9 +1,11 @@
 -- A form reads what it spells, and nothing else; and no word that it spells has a space.
-use Rattle.std.proofs.Common.{◌≡◌, ℕ, zero, suc, ◌+◌, ◌<◌, ◌≤◌, Bool, true, false, not, cond, ◌==◌, ◌&&◌, bytes_eq, codes, Option, Some, None, Result, Ok, Err, List, [], ◌∷◌, ◌++◌, length, refl, sym, ap, subst, ◌∙◌, append-nil, append_assoc, arith}
+use Rattle.std.proofs.Common.{◌≡◌, ℕ, zero, suc, ◌+◌, ◌<◌, ◌≤◌, Bool, true, false, not, cond, ◌==◌, bytes_eq, codes, Option, Some, None, Result, Ok, Err, List, [], ◌∷◌, ◌++◌, length, refl, sym, ap, subst, ◌∙◌, append-nil, append_assoc, arith}
 use Rattle.std.specs.List.{flat_map, list_all}
 use Rattle.std.proofs.lemmas.List.{length-append}
 use Rattle.std.proofs.lemmas.Slice.Eq.{bytes_eq-Decides}
 use Rattle.std.proofs.lemmas.List.Concat.{flat_map-cons}
+use Rattle.std.proofs.lemmas.Bool.{and_from}
+use Rattle.eris_base.proofs.Booleans.{left_of, right_of}
 use Rattle.eris_script.specs.declared.line_fault.LineFault.{LineFault}
 use Rattle.eris_script.specs.declared.line_fault.LineFault.TheVariants as fault
 use Rattle.eris_script.specs.declared.reason.Reason.{Reason}
@@ -29,17 +31,6 @@ done x = Ok x
 pub ok_is : {A : Type 0} (x y : A) → done x ≡ done y → x ≡ y
 ok_is x y same = cc
 
-pub both : (a b : Bool) → a ≡ true → b ≡ true → (a && b) ≡ true
-both a b left right = rw (left, right) refl
-
-pub left_of : (a b : Bool) → (a && b) ≡ true → a ≡ true
-left_of true b holds = refl
-left_of false b holds = absurd cc
-
-pub right_of : (a b : Bool) → (a && b) ≡ true → b ≡ true
-right_of true b holds = holds
-right_of false b holds = absurd cc
-
 said_ok : {X : Type 0} (o : Option X) (reason : Reason) (x : X) → said o reason ≡ Ok x → o ≡ Some x
 said_ok (Some y) reason x read = ap (λ z. Some z) (ok_is y x read)
 said_ok None reason x read = absurd cc
@@ -51,7 +42,7 @@ next_ok (word ∷ words) w read = let same : (word, words) ≡ w = ok_is (word, 
 pub plain-append : (xs ys : List (List ℕ)) → are_plain xs ≡ true → are_plain ys ≡ true → are_plain (xs ++ ys) ≡ true
 plain-append [] ys left right = right
 plain-append (x ∷ xs) ys left right =
-    both (is_plain x) (are_plain (xs ++ ys)) (left_of (is_plain x) (are_plain xs) left)
+    and_from (is_plain x) (are_plain (xs ++ ys)) (left_of (is_plain x) (are_plain xs) left)
     (plain-append xs ys (right_of (is_plain x) (are_plain xs) left) right)
 
 -- FORMS
@@ -85,7 +76,7 @@ is_one_word {X = X} reason spell value fits h = record {
       } in
       subst (λ (z : X × List (List ℕ)). Takes (one_word reason spell value fits) words z.0 z.1) (ok_is (b.0, a.0.1) (x, rest) b.2) made;
   again = λ x rest fine. rw (h.again x fine) refl;
-  plain = λ x fine. both (is_plain (spell x)) true (h.plain x fine) refl;
+  plain = λ x fine. and_from (is_plain (spell x)) true (h.plain x fine) refl;
 }
 
 pub is_pair : {X Y : Type 0} (c : Form X) (d : Form Y) → IsForm c → IsForm d → IsForm (pair c d)
@@ -97,7 +88,7 @@ is_pair {X = X} {Y = Y} c d h k = record {
       let u = k.takes a.0.1 b.0.0 b.0.1 b.1 in
       let made : Takes (pair c d) words (a.0.0, b.0.0) b.0.1 = record {
         parts = t.parts ∙ ap (λ (z : List (List ℕ)). c.spell a.0.0 ++ z) u.parts ∙ sym (append_assoc (c.spell a.0.0) (d.spell b.0.0) b.0.1);
-        fits = both _ _ t.fits u.fits;
+        fits = and_from _ _ t.fits u.fits;
       } in
       subst (λ (z : (X × Y) × List (List ℕ)). Takes (pair c d) words z.0 z.1) (ok_is ((a.0.0, b.0.0), b.0.1) (p, rest) b.2) made;
   again = λ p rest fine.
@@ -301,7 +292,7 @@ module _ {X : Type 0} (item : Form X) (h : IsForm item) where
       let each : behind_each (b.0.0 ∷ c.0) ≡ codes ";" ∷ (item.spell b.0.0 ++ behind_each c.0) = flat_map-cons (λ x. codes ";" ∷ item.spell x) b.0.0 c.0 in
       let made : AllTaken (word ∷ words) (b.0.0 ∷ c.0) = record {
         parts = t.parts ∙ ap (λ (z : List (List ℕ)). codes ";" ∷ (item.spell b.0.0 ++ z)) u.parts ∙ sym each;
-        fits = both (item.fits b.0.0) (list_all item.fits c.0) t.fits u.fits;
+        fits = and_from (item.fits b.0.0) (list_all item.fits c.0) t.fits u.fits;
       } in
       subst (λ (z : List X). AllTaken (word ∷ words) z) (ok_is (b.0.0 ∷ c.0) xs c.2) made
 

@@ -1,15 +1,15 @@
 -- What a word of digits spells.
 use Rattle.std.proofs.Common.{◌≡◌, ℕ, suc, ◌+◌, ◌-◌, ◌*◌, ◌/◌, ◌%◌, ◌<◌, ◌≤◌, Bool, true, false, not, cond, ◌==◌, ◌&&◌, ◌||◌, nat_le, nat_lt, bytes_eq, codes, Option, Some, None, List, [], ◌∷◌, ◌++◌, length, ap, sym, ◌∙◌, refl, subst, arith, inl, inr}
 use Rattle.std.specs.List.{flat_map, list_all}
-use Rattle.std.proofs.lemmas.Bool.{cases_lt, ltb-true, ltb-false, lt-ltb}
+use Rattle.std.proofs.lemmas.Bool.{cases_lt, ltb-true, ltb-false, lt-ltb, and_from, leb-true, le-leb}
 use Rattle.std.proofs.lemmas.Bool.Decides.{nat_tests}
 use Rattle.std.proofs.lemmas.List.Concat.{flat_map-cons}
 use Rattle.std.proofs.lemmas.Slice.Eq.{bytes_eq-Decides}
+use Rattle.eris_base.proofs.Booleans.{left_of, right_of}
 use Rattle.eris_script.specs.declared.reason.Reason.TheVariants as reason
 use Rattle.eris_script.specs.Cuts.{is_space}
 use Rattle.eris_script.specs.Fields.{are_noise, byte_of, hex, hex_digit, hex_pair, hex_value, hex_word, onto, read_hex, read_pairs}
-use Rattle.eris_script.proofs.FieldLaws.{le_true, true_le}
-use Rattle.eris_script.proofs.FormLaws.{is_plain, both, left_of, right_of, IsForm, is_one_word}
+use Rattle.eris_script.proofs.FormLaws.{is_plain, IsForm, is_one_word}
 
 low_digit : (n : ℕ) → n < 10 → hex_value (hex_digit n) ≡ Some n
 low_digit n low =
@@ -105,7 +105,7 @@ pairs_only (high ∷ low ∷ digits) bytes read =
     let rest = pairs_only digits parts.1 parts.3 in
     let made : PairsTaken (high ∷ low ∷ digits) (parts.0 ∷ parts.1) = record {
       parts = ap (λ (front : List ℕ). front ++ digits) here.0 ∙ ap (λ (z : List ℕ). hex_pair parts.0 ++ z) rest.parts ∙ sym (flat_map-cons hex_pair parts.0 parts.1);
-      fits = both (nat_lt parts.0 256) (list_all (λ byte. nat_lt byte 256) parts.1) (lt-ltb parts.0 256 here.1) rest.fits;
+      fits = and_from (nat_lt parts.0 256) (list_all (λ byte. nat_lt byte 256) parts.1) (lt-ltb parts.0 256 here.1) rest.fits;
     } in
     subst (λ (z : List ℕ). PairsTaken (high ∷ low ∷ digits) z) parts.4 made
 
@@ -125,8 +125,8 @@ pairs_plain (byte ∷ bytes) small =
     let here : byte < 256 = ltb-true byte 256 (left_of (nat_lt byte 256) (list_all (λ byte. nat_lt byte 256) bytes) small) in
     let rest = pairs_plain bytes (right_of (nat_lt byte 256) (list_all (λ byte. nat_lt byte 256) bytes) small) in
     ap is_plain (flat_map-cons hex_pair byte bytes)
-    ∙ both (not (is_space (hex_digit (byte / 16)))) (is_plain (hex_digit (byte % 16) ∷ flat_map hex_pair bytes)) (digit_plain (byte / 16) (omega arith))
-    (both (not (is_space (hex_digit (byte % 16)))) (is_plain (flat_map hex_pair bytes)) (digit_plain (byte % 16) (omega arith)) rest)
+    ∙ and_from (not (is_space (hex_digit (byte / 16)))) (is_plain (hex_digit (byte % 16) ∷ flat_map hex_pair bytes)) (digit_plain (byte / 16) (omega arith))
+    (and_from (not (is_space (hex_digit (byte % 16)))) (is_plain (flat_map hex_pair bytes)) (digit_plain (byte % 16) (omega arith)) rest)
 
 pub record HexTaken (word bytes : List ℕ) : Type 0 where
   pub parts : word ≡ hex_word bytes
@@ -148,7 +148,7 @@ some_bytes word (byte ∷ bytes) sized taken =
     let few : length word ≤ 512 = ltb-false 512 (length word) large in
     record {
       parts = taken.parts;
-      fits = both (nat_le (length (byte ∷ bytes)) 256) (list_all (λ byte. nat_lt byte 256) (byte ∷ bytes)) (le_true (length (byte ∷ bytes)) 256 (omega arith)) taken.fits;
+      fits = and_from (nat_le (length (byte ∷ bytes)) 256) (list_all (λ byte. nat_lt byte 256) (byte ∷ bytes)) (le-leb (length (byte ∷ bytes)) 256 (omega arith)) taken.fits;
     }
   where
     or_right : (a b : Bool) → (a || b) ≡ false → b ≡ false
@@ -169,7 +169,7 @@ hex_again [] fine = refl
 hex_again (byte ∷ bytes) fine =
     let digits : List ℕ = flat_map hex_pair (byte ∷ bytes) in
     let count : length digits ≡ 2 * suc (length bytes) = length_pairs (byte ∷ bytes) in
-    let few : length (byte ∷ bytes) ≤ 256 = true_le (length (byte ∷ bytes)) 256 (left_of (nat_le (length (byte ∷ bytes)) 256) (list_all (λ byte. nat_lt byte 256) (byte ∷ bytes)) fine) in
+    let few : length (byte ∷ bytes) ≤ 256 = leb-true (length (byte ∷ bytes)) 256 (left_of (nat_le (length (byte ∷ bytes)) 256) (list_all (λ byte. nat_lt byte 256) (byte ∷ bytes)) fine) in
     let sized : (length digits == 0 || nat_lt 512 (length digits)) ≡ false = sized_by (length digits) (omega arith) (omega arith) in
     ap (λ test. cond test (Some []) (cond (length digits == 0 || nat_lt 512 (length digits)) None (read_pairs digits))) (no_dash digits (omega arith))
     ∙ ap (λ test. cond test None (read_pairs digits)) sized

@@ -2,6 +2,8 @@
 use Rattle.std.proofs.Common.{◌≡◌, ℕ, Bool, true, false, cond, bytes_eq, codes, Option, Some, Ok, List, [], ◌∷◌, ◌++◌, map, refl, sym, ap, subst, ◌∙◌}
 use Rattle.std.specs.List.{list_all}
 use Rattle.std.proofs.lemmas.Slice.Eq.{bytes_eq-Decides}
+use Rattle.std.proofs.lemmas.Bool.{and_from}
+use Rattle.eris_base.proofs.Booleans.{left_of, right_of}
 use Rattle.eris_txn.specs.declared.key.Key.{Key}
 use Rattle.eris_script.specs.declared.reason.Reason.TheVariants as reason
 use Rattle.eris_script.specs.Fields.{key, read_key}
@@ -9,7 +11,7 @@ use Rattle.eris_script.specs.Forms.{Read, ◌>>=◌, said}
 use Rattle.eris_script.specs.PlanForms.{all_keys, keys_of}
 use Rattle.eris_script.specs.Words.{key_word}
 use Rattle.eris_script.proofs.FieldLaws.{is_key, key_read}
-use Rattle.eris_script.proofs.FormLaws.{are_plain, bind_ok, both, is_plain, left_of, ok_is, right_of}
+use Rattle.eris_script.proofs.FormLaws.{are_plain, bind_ok, is_plain, ok_is}
 
 -- what a word and those behind it give, by whether the word is `;`
 abbrev keys_by : ℕ → List ℕ → List (List ℕ) → Option Key → Bool → Read (List Key) → Read (List Key)
@@ -38,7 +40,7 @@ keys_take version (word ∷ words) ks rest read = of_test (bytes_eq word (codes 
         let u = later b.0.0 b.0.1 b.1 in
         let made : KeysTaken version (word ∷ words) (a.0 ∷ b.0.0) b.0.1 = record {
           parts = t.parts ∙ ap (λ (z : List (List ℕ)). key_word a.0 ∷ z) u.parts;
-          fits = both ((key version).fits a.0) (list_all (key version).fits b.0.0) t.fits u.fits;
+          fits = and_from ((key version).fits a.0) (list_all (key version).fits b.0.0) t.fits u.fits;
         } in
         subst (λ (z : List Key × List (List ℕ)). KeysTaken version (word ∷ words) z.0 z.1) (ok_is (a.0 ∷ b.0.0, b.0.1) (ks, rest) b.2) made
 
@@ -76,7 +78,7 @@ pub keys_plain : (version : ℕ) (ks : List Key) → list_all (key version).fits
 unfolding key
 keys_plain version [] fine = refl
 keys_plain version (k ∷ ks) fine =
-    both (is_plain (key_word k)) (are_plain (map key_word ks))
+    and_from (is_plain (key_word k)) (are_plain (map key_word ks))
     (left_of (is_plain (key_word k)) true ((is_key version).plain k (left_of ((key version).fits k) (list_all (key version).fits ks) fine)))
     (keys_plain version ks (right_of ((key version).fits k) (list_all (key version).fits ks) fine))
 
@@ -89,7 +91,7 @@ all_keys_take version words ks rest read =
     let u = keys_take version a.0.1 b.0.0 b.0.1 b.1 in
     let made : KeysTaken version words (a.0.0 ∷ b.0.0) b.0.1 = record {
       parts = t.parts ∙ ap (λ (z : List (List ℕ)). key_word a.0.0 ∷ z) u.parts;
-      fits = both ((key version).fits a.0.0) (list_all (key version).fits b.0.0) t.fits u.fits;
+      fits = and_from ((key version).fits a.0.0) (list_all (key version).fits b.0.0) t.fits u.fits;
     } in
     subst (λ (z : List Key × List (List ℕ)). KeysTaken version words z.0 z.1) (ok_is (a.0.0 ∷ b.0.0, b.0.1) (ks, rest) b.2) made
 

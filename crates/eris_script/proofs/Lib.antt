@@ -1,7 +1,7 @@
 pub mod DecimalLaws
 pub mod ClauseLaws
 pub mod ClauseSteps
-mod DigitLemmas
+pub mod DigitLemmas
 pub mod FieldLaws
 pub mod FormLaws
 pub mod HeaderLaws
@@ -11,7 +11,7 @@ pub mod KeyListLaws
 pub mod KeySteps
 pub mod LineLaws
 pub mod LineCuts
-mod LineLemmas
+pub mod LineLemmas
 pub mod NodeLaws
 pub mod PlanLaws
 mod ReadLemmas

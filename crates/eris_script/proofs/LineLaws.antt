@@ -1,5 +1,6 @@
 -- A line is read as just what it spells.
 use Rattle.std.proofs.Common.{◌≡◌, ℕ, ◌-◌, ◌^◌, ◌<◌, true, ◌&&◌, nat_le, codes, Option, Some, None, Ok, List, [], ◌∷◌, ◌++◌, refl, ap, subst, ◌∙◌, arith}
+use Rattle.std.proofs.lemmas.Bool.{and_from, leb-true, le-leb}
 use Rattle.eris_base.specs.declared.ids.ClientId.{ClientId}
 use Rattle.eris_base.specs.declared.ids.Epoch.{Epoch}
 use Rattle.eris_base.specs.declared.ids.Node.{Node}
@@ -19,8 +20,8 @@ use Rattle.eris_script.specs.OpForms.{are_ops, ops_of}
 use Rattle.eris_script.specs.OpText.{ops_words}
 use Rattle.eris_script.specs.PlanForms.{is_plan, plan_of}
 use Rattle.eris_script.specs.Spelling.{Says, SaysTimes, SpellsPlan}
-use Rattle.eris_script.proofs.FieldLaws.{is_client, is_count, is_replica, is_txn, le_true, true_le}
-use Rattle.eris_script.proofs.FormLaws.{bind_ok, both, is_pair, ok_is, whole_again, whole_takes}
+use Rattle.eris_script.proofs.FieldLaws.{is_client, is_count, is_replica, is_txn}
+use Rattle.eris_script.proofs.FormLaws.{bind_ok, is_pair, ok_is, whole_again, whole_takes}
 use Rattle.eris_script.proofs.HexLaws.{is_hex}
 use Rattle.eris_script.proofs.NodeLaws.{is_epoch, is_node}
 use Rattle.eris_script.proofs.OpListLaws.{ops_again, ops_take}
@@ -37,7 +38,7 @@ submit_takes version words e read =
     let u = ops_take version a.0.1 b.0 b.1 in
     let made : Says version (codes "submit" ∷ words) (event.Submit a.0.0 b.0) = record {
       spelled = ap (λ (z : List (List ℕ)). codes "submit" ∷ z) (t.parts ∙ ap (λ (z : List (List ℕ)). decimal a.0.0.0 ∷ z) u.parts);
-      fits = both (client.fits a.0.0) (are_ops version b.0) t.fits u.fits;
+      fits = and_from (client.fits a.0.0) (are_ops version b.0) t.fits u.fits;
     } in
     subst (λ (z : Event). Says version (codes "submit" ∷ words) z) (ok_is (event.Submit a.0.0 b.0) e b.2) made
 
@@ -57,7 +58,7 @@ general_takes version words e read =
     let u = plan_take version a.0.1 b.0 b.1 in
     let made : Says version (codes "general" ∷ words) (event.General a.0.0 b.0) = record {
       spelled = record { behind = a.0.1; spelled = ap (λ (z : List (List ℕ)). codes "general" ∷ z) t.parts; planned = u.spelled };
-      fits = both (client.fits a.0.0) (is_plan version b.0) t.fits u.fits;
+      fits = and_from (client.fits a.0.0) (is_plan version b.0) t.fits u.fits;
     } in
     subst (λ (z : Event). Says version (codes "general" ∷ words) z) (ok_is (event.General a.0.0 b.0) e b.2) made
 
@@ -120,7 +121,7 @@ deliver_takes version words e read =
         subst (λ (z : Option Epoch). Says version (codes "deliver" ∷ words) (event.Deliver packet z)) (ok_is (Some a.0) named a.2)
         (record {
           spelled = ap (λ (z : List (List ℕ)). codes "deliver" ∷ z) (parts ∙ ap (λ (z : List (List ℕ)). decimal packet ∷ z) t.0);
-          fits = both (nat_le packet (2 ^ 32 - 1)) (epoch.fits a.0) fine t.1;
+          fits = and_from (nat_le packet (2 ^ 32 - 1)) (epoch.fits a.0) fine t.1;
         })
 
 pub deliver_again : (packet : ℕ) (named : Option Epoch) → count.fits packet ≡ true → (e : (epoch : Epoch) → named ≡ Some epoch → count.fits epoch.0 ≡ true) →
@@ -168,9 +169,9 @@ pub times_take : (words : List (List ℕ)) (text : List ℕ) (n : ℕ) → whole
 unfolding count number
 times_take words text n read =
     let t = whole_takes count is_count words n read in
-    let few = true_le n (2 ^ 32 - 1) t.1 in
+    let few = leb-true n (2 ^ 32 - 1) t.1 in
     record { spelled = ap (λ (z : List (List ℕ)). text ∷ z) t.0; fits = omega arith }
 
 pub times_again : (n : ℕ) → n < 2 ^ 32 → whole count (decimal n ∷ []) ≡ Ok n
 unfolding count number
-times_again n few = whole_again count is_count n (le_true n (2 ^ 32 - 1) (omega arith))
+times_again n few = whole_again count is_count n (le-leb n (2 ^ 32 - 1) (omega arith))

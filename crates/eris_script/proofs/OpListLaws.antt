@@ -2,13 +2,14 @@
 use Rattle.std.proofs.Common.{◌≡◌, ℕ, ◌≤◌, Bool, true, false, cond, ◌&&◌, nat_le, nat_lt, Ok, Err, List, [], ◌∷◌, ◌++◌, length, refl, sym, ap, subst, ◌∙◌, arith}
 use Rattle.std.specs.List.{flat_map, list_all}
 use Rattle.std.proofs.lemmas.Bool.Decides.{nat_tests}
+use Rattle.std.proofs.lemmas.Bool.{and_from, leb-true, le-leb}
+use Rattle.eris_base.proofs.Booleans.{left_of, right_of}
 use Rattle.eris_txn.specs.declared.op.Op.{Op}
 use Rattle.eris_script.specs.declared.reason.Reason.TheVariants as reason
 use Rattle.eris_script.specs.Forms.{◌>>=◌, more}
 use Rattle.eris_script.specs.OpForms.{all_ops, are_ops, few_ops, fits_op, most, op, ops_of}
 use Rattle.eris_script.specs.OpText.{next_op_words, op_words, ops_words}
-use Rattle.eris_script.proofs.FieldLaws.{le_true, true_le}
-use Rattle.eris_script.proofs.FormLaws.{are_plain, bind_ok, both, each_plain, left_of, more_again, more_takes, ok_is, plain-append, right_of}
+use Rattle.eris_script.proofs.FormLaws.{are_plain, bind_ok, each_plain, more_again, more_takes, ok_is, plain-append}
 use Rattle.eris_script.proofs.OpLaws.{is_op}
 
 few_is : (version : ℕ) (ops taken : List Op) → few_ops version ops ≡ Ok taken → (ops ≡ taken) × (length ops ≤ most version)
@@ -35,9 +36,9 @@ ops_take version words ops read =
     let size : length (b.0.0 ∷ c.0) ≤ most version = subst (λ (z : List Op). length z ≤ most version) (sym (ok_is (b.0.0 ∷ c.0) a.0 c.2)) few.1 in
     let made : OpsTaken version words (b.0.0 ∷ c.0) = record {
       parts = t.parts ∙ ap (λ (z : List (List ℕ)). op_words b.0.0 ++ z) u.parts;
-      fits = both (nat_lt 0 (length (b.0.0 ∷ c.0)) && nat_le (length (b.0.0 ∷ c.0)) (most version)) (list_all (fits_op version) (b.0.0 ∷ c.0))
-          (both (nat_lt 0 (length (b.0.0 ∷ c.0))) (nat_le (length (b.0.0 ∷ c.0)) (most version)) (grind (arith, nat_tests)) (le_true (length (b.0.0 ∷ c.0)) (most version) size))
-          (both (fits_op version b.0.0) (list_all (fits_op version) c.0) t.fits u.fits);
+      fits = and_from (nat_lt 0 (length (b.0.0 ∷ c.0)) && nat_le (length (b.0.0 ∷ c.0)) (most version)) (list_all (fits_op version) (b.0.0 ∷ c.0))
+          (and_from (nat_lt 0 (length (b.0.0 ∷ c.0))) (nat_le (length (b.0.0 ∷ c.0)) (most version)) (grind (arith, nat_tests)) (le-leb (length (b.0.0 ∷ c.0)) (most version) size))
+          (and_from (fits_op version b.0.0) (list_all (fits_op version) c.0) t.fits u.fits);
     } in
     subst (λ (z : List Op). OpsTaken version words z) same made
 
@@ -46,7 +47,7 @@ unfolding ops_of all_ops op
 ops_again version [] fine = absurd cc
 ops_again version (first ∷ others) fine =
     let sized = left_of (nat_lt 0 (length (first ∷ others)) && nat_le (length (first ∷ others)) (most version)) (list_all (fits_op version) (first ∷ others)) fine in
-    let few = true_le (length (first ∷ others)) (most version) (right_of (nat_lt 0 (length (first ∷ others))) (nat_le (length (first ∷ others)) (most version)) sized) in
+    let few = leb-true (length (first ∷ others)) (most version) (right_of (nat_lt 0 (length (first ∷ others))) (nat_le (length (first ∷ others)) (most version)) sized) in
     let all = right_of (nat_lt 0 (length (first ∷ others)) && nat_le (length (first ∷ others)) (most version)) (list_all (fits_op version) (first ∷ others)) fine in
     let here = left_of (fits_op version first) (list_all (fits_op version) others) all in
     let rest = right_of (fits_op version first) (list_all (fits_op version) others) all in

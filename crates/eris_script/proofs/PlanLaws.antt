@@ -3,6 +3,8 @@ use Rattle.std.proofs.Common.{◌≡◌, ℕ, Bool, true, false, cond, ◌&&◌,
 use Rattle.std.specs.List.{flat_map, list_all}
 use Rattle.std.proofs.lemmas.Bool.Decides.{nat_tests}
 use Rattle.std.proofs.lemmas.List.Concat.{flat_map-cons}
+use Rattle.std.proofs.lemmas.Bool.{and_from}
+use Rattle.eris_base.proofs.Booleans.{left_of, right_of}
 use Rattle.eris_txn.specs.declared.key.Key.{Key}
 use Rattle.eris_txn.specs.declared.plan.Guard.{Guard}
 use Rattle.eris_txn.specs.declared.plan.PlanFault.{PlanFault}
@@ -21,7 +23,7 @@ use Rattle.eris_script.specs.PlanText.{guard_words, plan_words, setting_words}
 use Rattle.eris_script.specs.Spelling.{SpellsPlan}
 use Rattle.eris_script.specs.Words.{key_word}
 use Rattle.eris_script.proofs.ClauseLaws.{is_clause}
-use Rattle.eris_script.proofs.FormLaws.{are_plain, bind_ok, both, each_plain, expect_ok, left_of, more_again, more_takes, ok_is, plain-append, right_of}
+use Rattle.eris_script.proofs.FormLaws.{are_plain, bind_ok, each_plain, expect_ok, more_again, more_takes, ok_is, plain-append}
 use Rattle.eris_script.proofs.KeyListLaws.{all_keys_again, all_keys_take, keys_plain, stops}
 
 -- CLAUSES
@@ -29,7 +31,7 @@ use Rattle.eris_script.proofs.KeyListLaws.{all_keys_again, all_keys_take, keys_p
 guards_fit : (version : ℕ) (clauses : List Clause) → list_all (fits_clause version) clauses ≡ true → list_all (fits_guard version) (guards_in clauses) ≡ true
 guards_fit version [] fine = refl
 guards_fit version (clause.Guard g ∷ clauses) fine =
-    both (fits_guard version g) (list_all (fits_guard version) (guards_in clauses)) (left_of (fits_guard version g) (list_all (fits_clause version) clauses) fine)
+    and_from (fits_guard version g) (list_all (fits_guard version) (guards_in clauses)) (left_of (fits_guard version g) (list_all (fits_clause version) clauses) fine)
     (guards_fit version clauses (right_of (fits_guard version g) (list_all (fits_clause version) clauses) fine))
 guards_fit version (clause.Setting s ∷ clauses) fine = guards_fit version clauses (right_of (fits_setting version s) (list_all (fits_clause version) clauses) fine)
 
@@ -37,17 +39,17 @@ settings_fit : (version : ℕ) (clauses : List Clause) → list_all (fits_clause
 settings_fit version [] fine = refl
 settings_fit version (clause.Guard g ∷ clauses) fine = settings_fit version clauses (right_of (fits_guard version g) (list_all (fits_clause version) clauses) fine)
 settings_fit version (clause.Setting s ∷ clauses) fine =
-    both (fits_setting version s) (list_all (fits_setting version) (settings_in clauses)) (left_of (fits_setting version s) (list_all (fits_clause version) clauses) fine)
+    and_from (fits_setting version s) (list_all (fits_setting version) (settings_in clauses)) (left_of (fits_setting version s) (list_all (fits_clause version) clauses) fine)
     (settings_fit version clauses (right_of (fits_setting version s) (list_all (fits_clause version) clauses) fine))
 
 clauses_fit : (version : ℕ) (clauses : List Clause) → list_all (fits_guard version) (guards_in clauses) ≡ true → list_all (fits_setting version) (settings_in clauses) ≡ true →
     list_all (fits_clause version) clauses ≡ true
 clauses_fit version [] guards settings = refl
 clauses_fit version (clause.Guard g ∷ clauses) guards settings =
-    both (fits_guard version g) (list_all (fits_clause version) clauses) (left_of (fits_guard version g) (list_all (fits_guard version) (guards_in clauses)) guards)
+    and_from (fits_guard version g) (list_all (fits_clause version) clauses) (left_of (fits_guard version g) (list_all (fits_guard version) (guards_in clauses)) guards)
     (clauses_fit version clauses (right_of (fits_guard version g) (list_all (fits_guard version) (guards_in clauses)) guards) settings)
 clauses_fit version (clause.Setting s ∷ clauses) guards settings =
-    both (fits_setting version s) (list_all (fits_clause version) clauses) (left_of (fits_setting version s) (list_all (fits_setting version) (settings_in clauses)) settings)
+    and_from (fits_setting version s) (list_all (fits_clause version) clauses) (left_of (fits_setting version s) (list_all (fits_setting version) (settings_in clauses)) settings)
     (clauses_fit version clauses guards (right_of (fits_setting version s) (list_all (fits_setting version) (settings_in clauses)) settings))
 
 -- PLANS

@@ -2,6 +2,7 @@
 use Rattle.std.proofs.Common.{◌≡◌, ℕ, Bool, true, false, cond, codes, IsTrue, Option, Some, None, Result, Ok, List, [], ◌∷◌, ◌++◌, refl, sym, ap, subst, ◌∙◌, lit<}
 use Rattle.std.proofs.lemmas.Fmt.{decimal_digit}
 use Rattle.eris_base.specs.declared.ids.Epoch.{Epoch}
+use Rattle.eris_base.proofs.Booleans.{left_of, right_of}
 use Rattle.eris_script.specs.declared.event.Event.{Event}
 use Rattle.eris_script.specs.declared.event.Event.TheVariants as event
 use Rattle.eris_script.specs.declared.fixed_words.LineWord.{LineWord}
@@ -22,7 +23,7 @@ use Rattle.eris_script.specs.PlanForms.{is_plan}
 use Rattle.eris_script.specs.PlanText.{plan_words}
 use Rattle.eris_script.specs.Spelling.{IsReadAsSpelled, Says, SaysTimes}
 use Rattle.eris_script.proofs.FieldLaws.{is_client, is_count, is_replica, is_txn}
-use Rattle.eris_script.proofs.FormLaws.{are_plain, bind_ok, left_of, ok_is, plain-append, right_of}
+use Rattle.eris_script.proofs.FormLaws.{are_plain, bind_ok, ok_is, plain-append}
 use Rattle.eris_script.proofs.HexLaws.{is_hex}
 use Rattle.eris_script.proofs.LineLaws.{abort_again, abort_takes, at_again, at_takes, deliver_again, deliver_takes, general_again, general_takes, noise_again, noise_takes, retry_again, retry_takes, submit_again, submit_takes, times_again, times_take}
 use Rattle.eris_script.proofs.NodeLaws.{is_node}

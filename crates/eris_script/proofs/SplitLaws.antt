@@ -1,8 +1,9 @@
 -- Words joined by spaces are cut at these spaces.
 use Rattle.std.proofs.Common.{◌≡◌, ◌==◌, ℕ, Bool, true, false, not, cond, List, [], ◌∷◌, ◌++◌, ap, sym, ◌∙◌, refl}
 use Rattle.std.specs.List.{join_with_byte, onto_first, slice_split}
+use Rattle.eris_base.proofs.Booleans.{left_of, right_of}
 use Rattle.eris_script.specs.Cuts.{is_skipped, is_space, words}
-use Rattle.eris_script.proofs.FormLaws.{is_plain, are_plain, left_of, right_of}
+use Rattle.eris_script.proofs.FormLaws.{is_plain, are_plain}
 
 no_space : (byte : ℕ) → not (is_space byte) ≡ true → is_space byte ≡ false
 no_space byte plain = of_test (is_space byte) plain

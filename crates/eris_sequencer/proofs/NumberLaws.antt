@@ -46,7 +46,7 @@ pub record AreNumbered (stamping : Stamping) : Type 0 where
   pub of_epoch : Each (λ packet. packet.stamp.epoch ≡ stamping.sequencer.epoch) stamping.stamped
 
 -- ---- the numbers of the next packet
-number_in-next : (counters : List ℕ) (shards : List ShardId) (shard : ShardId)
+pub number_in-next : (counters : List ℕ) (shards : List ShardId) (shard : ShardId)
     → number_in (next_places counters shards) shard ≡ cond (has_shard shards shard) (Some (counter_of counters shard + 1)) None
 unfolding next_places
 number_in-next counters [] shard = refl

@@ -56,7 +56,7 @@ some_op_shard (op ∷ ops) some = ((key_of op).shard, or_left _ _ (eq-eqb (key_o
 pub prelim_is_own : Phase.Prelim ≡ Phase.Conclude → ⊥
 prelim_is_own is = cc
 
-whole_is_own : Phase.Whole ≡ Phase.Conclude → ⊥
+pub whole_is_own : Phase.Whole ≡ Phase.Conclude → ⊥
 whole_is_own is = cc
 
 -- WHAT WAS SAID OVER A LIST STANDS IN IT

@@ -1,7 +1,7 @@
 -- An answer made by taking the shards' items in turn has one item for each place, and each shard's share of it is what the
 -- shard gave. So an answer over many shards is said by its shares. Used by a protocol whose clients join answers.
-use Rattle.std.proofs.Common.{◌≡◌, ◌==◌, map, ℕ, Option, length, arith, Bool, true, false, cond, List, [], ◌∷◌, refl, ap, sym, ◌∙◌, subst, ◌⊎◌, inl, inr}
-use Rattle.std.proofs.lemmas.Bool.{both_ways, cases_Bool, cond-true, cond-false, eqb-true, eq-eqb}
+use Rattle.std.proofs.Common.{◌≡◌, map, ℕ, Option, length, arith, Bool, true, false, cond, List, [], ◌∷◌, refl, ap, sym, ◌∙◌, subst, ◌⊎◌, inl, inr}
+use Rattle.std.proofs.lemmas.Bool.{cases_Bool, cond-true, cond-false, eqb-true, eq-eqb}
 use Rattle.std.specs.List.{filter}
 use Rattle.std.specs.Prelude.{IsTrue}
 use Rattle.eris_base.specs.declared.ids.Phase.{Phase}
@@ -17,19 +17,11 @@ use Rattle.eris_txn.specs.PlanValues.{PlanValue}
 use Rattle.eris_serial.specs.Evidence.{ReadEvidence, SaidOn, WholeEvidence}
 use Rattle.eris_serial.specs.Transactions.{takes_part}
 use Rattle.eris_base.specs.declared.ids.ShardId.{ShardId}
+use Rattle.eris_base.proofs.Booleans.{number_turned}
 use Rattle.eris_txn.specs.declared.key.Key.{Key}
 use Rattle.eris_locks.specs.Shards.{is_on}
 use Rattle.eris_serial.specs.Joining.{GaveEach, IsJoined, TakesInTurn, shards_in_order, with_rest}
 use Rattle.eris_serial.specs.Shares.{share, OneForEach}
-
-same_number_turned : (m n : ℕ) → (m == n) ≡ (n == m)
-same_number_turned m n = by_tests (cases_Bool (m == n)) (cases_Bool (n == m))
-  where
-    by_tests : (((m == n) ≡ true) ⊎ ((m == n) ≡ false)) → (((n == m) ≡ true) ⊎ ((n == m) ≡ false)) → (m == n) ≡ (n == m)
-    by_tests (inl h) (inl k) = h ∙ sym k
-    by_tests (inr h) (inr k) = h ∙ sym k
-    by_tests (inl h) (inr k) = absurd (both_ways _ k (eq-eqb n m (sym (eqb-true m n h))))
-    by_tests (inr h) (inl k) = absurd (both_ways _ h (eq-eqb m n (sym (eqb-true n m k))))
 
 module _ {X : Type 0} (A : Type 0) (key_in : X → Key) where
   abbrev on : ShardId → X → Bool
@@ -42,7 +34,7 @@ module _ {X : Type 0} (A : Type 0) (key_in : X → Key) where
   -- the list that is left of a shard, by the test that cuts shares
   left_is : (place : X) (rest : List A) (given : ShardId → List A) (shard : ShardId)
       → with_rest (key_in place).shard rest given shard ≡ cond (on shard place) rest (given shard)
-  left_is place rest given shard = ap (λ test. cond test rest (given shard)) (same_number_turned shard.0 (key_in place).shard.0)
+  left_is place rest given shard = ap (λ test. cond test rest (given shard)) (number_turned shard.0 (key_in place).shard.0)
 
   -- the first place's shard gave an item
   gave_one : (place : X) (places : List X) (given : ShardId → List A) → GaveEach key_in (place ∷ places) given → given (key_in place).shard ≡ [] → ⊥

@@ -1,6 +1,6 @@
 -- A submitted transaction can be run, where each submit's can, as it can where it has its size; and a preliminary
 -- speaks of its plan's keys. Used where evidence is made and where it is read.
-use Rattle.std.proofs.Common.{◌≡◌, Bool, true, false, cond, Option, Some, None, is_some, unwrap_or, List, [], ◌∷◌, refl, ap, subst, inl, inr, ◌≤◌, is_none, length, map, arith}
+use Rattle.std.proofs.Common.{◌≡◌, Bool, true, false, cond, Option, Some, None, is_some, unwrap_or, List, [], ◌∷◌, refl, ap, subst, inl, inr, ◌≤◌, is_none, length, arith}
 use Rattle.std.proofs.lemmas.Bool.{both_ways}
 use Rattle.std.specs.Prelude.{IsTrue}
 use Rattle.eris_base.specs.declared.ids.TxnId.{TxnId}
@@ -12,17 +12,16 @@ use Rattle.eris_txn.specs.declared.history.HistoryEvent.TheVariants.{Submit, Rea
 use Rattle.eris_txn.specs.declared.txn.Txn.{Txn}
 use Rattle.eris_txn.specs.declared.txn.Txn.TheVariants.{Whole, General}
 use Rattle.eris_txn.specs.PlanValues.{PlanValue}
-use Rattle.eris_txn.specs.Plans.{locks_in, locks_of}
+use Rattle.eris_txn.specs.Plans.{locks_of}
 use Rattle.eris_audit.specs.Histories.{first_submit, is_submitted, txn_of}
 use Rattle.eris_serial.specs.Evidence.{IsIn, SubmitsWell}
 use Rattle.eris_serial.specs.Transactions.{CanRun, CanRunPlan, keys_in}
 use Rattle.eris_txn.specs.declared.key.Key.{Key}
 use Rattle.eris_txn.specs.declared.plan.PlanFault.{PlanFault}
-use Rattle.eris_txn.specs.declared.plan.Setting.{Setting}
 use Rattle.eris_txn.specs.Bodies.{keys_of}
 use Rattle.eris_txn.specs.PlanFaults.{plan_fault}
 use Rattle.eris_txn.specs.Sizes.{event_has_size, txn_has_size}
-use Rattle.eris_txn.proofs.PlanLaws.{IsPlan-no_fault}
+use Rattle.eris_txn.proofs.PlanLaws.{IsPlan-no_fault, locked_keys}
 
 -- a property of each item, of one that stands there
 pub Each-in : {X : Type 0} (P : X → Type 0) (items : List X) (item : X) → Each P items → IsIn item items → P item
@@ -78,11 +77,6 @@ sized_submits_well (Submit id txn) sized = sized_can_run txn sized
 sized_submits_well (Read id values) sized = tt
 sized_submits_well (Answered id answer) sized = tt
 sized_submits_well (Told asker id answer) sized = tt
-
--- THE KEYS OF A PRELIMINARY are its plan's
-locked_keys : (settings : List Setting) (keys : List Key) → map (λ lock. lock.key) (locks_in settings keys) ≡ keys
-locked_keys settings [] = refl
-locked_keys settings (key ∷ keys) = ap (λ l. key ∷ l) (locked_keys settings keys)
 
 pub prelim_keys : (plan : PlanValue) → keys_of (Prelim (locks_of plan)) ≡ keys_in (General plan)
 prelim_keys plan = locked_keys plan.settings plan.keys

@@ -28,7 +28,18 @@ on_shard-packets_on shard (packet ∷ packets) = by_test (names_shard shard pack
     by_test true rest = ap (λ l. cut shard packet ∷ l) rest
     by_test false rest = rest
 
-said_before : (id : TxnId) (phase : Phase) (answer : Answer) (dones others : List Done) → Said id phase answer dones → Said id phase answer (dones ++ others)
+-- the packets on a shard of two lists, one behind the other
+pub on_shard-append : (shard : ShardId) (front back : List Packet) → on_shard shard (front ++ back) ≡ on_shard shard front ++ on_shard shard back
+on_shard-append shard [] back = refl
+on_shard-append shard (packet ∷ front) back = by_test (names_shard shard packet) (on_shard-append shard front back)
+  where
+    by_test : (named : Bool) → on_shard shard (front ++ back) ≡ on_shard shard front ++ on_shard shard back
+        → elim named as (λ b. List ShardPacket) [ true ↦ cut shard packet ∷ on_shard shard (front ++ back) | false ↦ on_shard shard (front ++ back) ]
+        ≡ elim named as (λ b. List ShardPacket) [ true ↦ cut shard packet ∷ on_shard shard front | false ↦ on_shard shard front ] ++ on_shard shard back
+    by_test true rest = ap (λ l. cut shard packet ∷ l) rest
+    by_test false rest = rest
+
+pub said_before : (id : TxnId) (phase : Phase) (answer : Answer) (dones others : List Done) → Said id phase answer dones → Said id phase answer (dones ++ others)
 said_before id phase answer [] others said = absurd said
 said_before id phase answer (given ∷ dones) others (inl here) = inl here
 said_before id phase answer (given ∷ dones) others (inr there) = inr (said_before id phase answer dones others there)

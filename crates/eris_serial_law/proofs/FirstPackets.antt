@@ -8,6 +8,7 @@ use Rattle.eris_base.specs.declared.ids.TxnId.{TxnId}
 use Rattle.eris_base.specs.Each.{Each, EachAfter}
 use Rattle.eris_base.specs.TxnIds.{is_among, same_id}
 use Rattle.eris_base.proofs.TxnIdLaws.{same_id-apart, same_id-from, same_id-true}
+use Rattle.eris_base.proofs.Booleans.{or_none}
 use Rattle.eris_txn.specs.declared.answer.Answer.{Answer}
 use Rattle.eris_txn.specs.declared.body.Body.{Body}
 use Rattle.eris_txn.specs.declared.body.Body.TheVariants.{Abort, Commit, Independent, Prelim}
@@ -58,17 +59,13 @@ still_decided (Abort keys) true true later concludes = refl
 still_decided (Abort keys) true false later concludes = refl
 still_decided (Abort keys) false before later concludes = refl
 
-or_nothing : (test : Bool) → (test || false) ≡ test
-or_nothing true = refl
-or_nothing false = refl
-
 outcome_from_place : (front after : List Packet) (packet : Packet) (seen decided : List TxnId) → (HasOwn packet.id front → ⊥) → is_conclusory packet.body ≡ false → is_among packet.id seen ≡ false
     → outcome_in (lines_from seen decided (front ++ packet ∷ after)) packet.id
     ≡ Some (outcome_of packet.body (is_among packet.id decided || is_some (outcome_at packet.id front)) (outcome_at packet.id after))
 outcome_from_place [] after packet seen decided first own new =
     by_packet (λ some. outcome_in some packet.id ≡ Some (outcome_of packet.body (is_among packet.id decided || false) (outcome_at packet.id after))) seen decided packet after
     (λ concludes. absurd (both_ways _ own concludes)) (λ own' again. absurd (both_ways _ new again))
-    (λ own' new'. cond-true _ _ _ (same_id-from packet.id packet.id refl) ∙ ap (λ test. Some (outcome_of packet.body test (outcome_at packet.id after))) (sym (or_nothing (is_among packet.id decided))))
+    (λ own' new'. cond-true _ _ _ (same_id-from packet.id packet.id refl) ∙ ap (λ test. Some (outcome_of packet.body test (outcome_at packet.id after))) (sym (or_none (is_among packet.id decided))))
 outcome_from_place (other ∷ front) after packet seen decided first own new =
     by_packet (λ some. outcome_in some packet.id ≡ Some (outcome_of packet.body (is_among packet.id decided || is_some (outcome_at packet.id (other ∷ front))) (outcome_at packet.id after))) seen decided other (front ++ packet ∷ after)
     (λ concludes. outcome_from_place front after packet seen (other.id ∷ decided) (λ has. first (inr has)) own new

@@ -24,6 +24,7 @@ use Rattle.eris_locks.specs.ShardRun.{outcome_by}
 use Rattle.eris_locks.specs.Shards.{cut, cut_body, names_shard, on_shard}
 use Rattle.eris_locks.specs.States.{is_conclusory, phase_of}
 use Rattle.eris_locks.specs.WellFormed.{is_commit}
+use Rattle.eris_lock_law.proofs.InTime.{outcome_later}
 use Rattle.eris_audit.specs.declared.outcome.Outcome.{Outcome}
 use Rattle.eris_audit.specs.Lines.{Line, has_line, outcome_in, stands_before}
 use Rattle.eris_audit.specs.SerialRun.{left_by_txn, result_in, result_of}
@@ -39,18 +40,10 @@ concludes_some shard (Prelim locks) later is none = cc
 concludes_some shard (Commit keys writes) later is none = cc
 concludes_some shard (Abort keys) later is none = cc
 
-later_none : (body : Body) (here : Bool) (later : Option Answer) → outcome_by body here later ≡ None → later ≡ None
-later_none (Independent ops) here later none = none
-later_none (Prelim locks) here later none = none
-later_none (Commit keys writes) true later none = cc
-later_none (Commit keys writes) false later none = none
-later_none (Abort keys) true later none = cc
-later_none (Abort keys) false later none = none
-
 pub none_concluded : (shard : ShardId) (id : TxnId) (packets : List Packet) → outcome_at id packets ≡ None → HasPacket id Phase.Conclude (on_shard shard packets) → ⊥
 none_concluded shard id [] none = λ has. has
 none_concluded shard id (packet ∷ packets) none =
-    by_test (names_shard shard packet) (none_concluded shard id packets (later_none packet.body (same_id id packet.id) (outcome_at id packets) none))
+    by_test (names_shard shard packet) (none_concluded shard id packets (outcome_later packet.body (same_id id packet.id) (outcome_at id packets) none))
   where
     by_test : (named : Bool) → (HasPacket id Phase.Conclude (on_shard shard packets) → ⊥)
         → HasPacket id Phase.Conclude (elim named [ true ↦ cut shard packet ∷ on_shard shard packets | false ↦ on_shard shard packets ]) → ⊥

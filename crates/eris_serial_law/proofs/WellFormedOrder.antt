@@ -42,21 +42,11 @@ use Rattle.eris_lock_law.proofs.Lost.{said_finds}
 use Rattle.eris_serial.specs.Evidence.{BodyOrigin, CommitEvidence, HasCommitEvidence, Origins, SaidOn}
 use Rattle.eris_serial.specs.Shares.{share}
 use Rattle.eris_serial.specs.Transactions.{takes_part, CanRun}
+use Rattle.eris_serial.proofs.SaidByLogs.{on_shard-append}
 use Rattle.eris_serial_law.proofs.AtShard.{lock_on, write_on}
 use Rattle.eris_serial_law.proofs.OrderOrigins.{same_plan}
 use Rattle.eris_serial_law.proofs.ShardByShard.{settings_locked}
 use Rattle.eris_serial_law.proofs.Sound.{BodySound, CommitSound, Sound}
-
--- the packets on a shard of two lists, one behind the other
-pub on_shard-append : (shard : ShardId) (front back : List Packet) → on_shard shard (front ++ back) ≡ on_shard shard front ++ on_shard shard back
-on_shard-append shard [] back = refl
-on_shard-append shard (packet ∷ front) back = by_test (names_shard shard packet) (on_shard-append shard front back)
-  where
-    by_test : (named : Bool) → on_shard shard (front ++ back) ≡ on_shard shard front ++ on_shard shard back
-        → elim named as (λ b. List ShardPacket) [ true ↦ cut shard packet ∷ on_shard shard (front ++ back) | false ↦ on_shard shard (front ++ back) ]
-        ≡ elim named as (λ b. List ShardPacket) [ true ↦ cut shard packet ∷ on_shard shard front | false ↦ on_shard shard front ] ++ on_shard shard back
-    by_test true rest = ap (λ l. cut shard packet ∷ l) rest
-    by_test false rest = rest
 
 -- THE WRITES OF A PLAN are on keys that its locks have alone
 alters-locks : (shard : ShardId) (settings : List Setting) (keys : List Key) (key : Key) → is_among keys key ≡ true → sets settings key ≡ true → is_on shard key ≡ true

@@ -2,10 +2,10 @@ ghost use Rattle.std.specs.Prelude.{◌≡◌, IfOk};
 ghost use Rattle.std.specs.List.{filter};
 ghost use Rattle.eris_txn.specs.declared.key.Key.{Key};
 ghost use Rattle.eris_txn.specs.Operations.{key_of};
-ghost use Rattle.eris_locks.specs.Shards.{cut, cut_body, is_on, place_on};
+ghost use Rattle.eris_locks.specs.Shards.{cut, cut_body, is_on};
 
-use eris_base::{NoMemory, Place, Row, ShardId, Stamp};
-use eris_locks::ShardPacket;
+use eris_base::{NoMemory, Row, ShardId};
+use eris_locks::{ShardPacket, place_on};
 use eris_txn::{Body, Key, Lock, Op, Packet, Write};
 use std::alloc::Global;
 
@@ -19,16 +19,6 @@ pub(crate) fn cut(alloc: Global, shard: ShardId, packet: &Packet) -> Result<Shar
         at: place_on(shard, &packet.stamp),
         body: cut_body(alloc, shard, &packet.body)?,
     })
-}
-
-fn place_on(shard: ShardId, stamp: &Stamp) -> Place
-    ensures { result ≡ place_on shard stamp.now }
-{
-    Place {
-        epoch: stamp.epoch,
-        shard,
-        number: stamp.number_of(shard).unwrap_or(0),
-    }
 }
 
 fn cut_body(alloc: Global, shard: ShardId, body: &Body) -> Result<Body, NoMemory>

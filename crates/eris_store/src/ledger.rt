@@ -1,9 +1,9 @@
 ghost use Rattle.std.specs.Prelude.{◌≡◌, Some, None, IfOk, OnOk};
-ghost use Rattle.eris_base.specs.TxnIds.{same_id};
-ghost use Rattle.eris_locks.specs.States.{note, decide, is_decided, same_phase};
+ghost use Rattle.eris_locks.specs.States.{note, decide, is_decided};
 ghost use Rattle.eris_store.specs.Ledgers.{recorded_in, decided_in};
 
-use eris_base::{Dup, NoMemory, Phase, Row, TxnId};
+use eris_base::{Dup, NoMemory, Phase, Row, TxnId, is_same_id};
+use eris_locks::is_same_phase;
 use eris_txn::Answer;
 use std::alloc::Global;
 
@@ -38,24 +38,6 @@ impl Dup for Decided {
             id: self.id,
             outcome: self.outcome.copy(alloc)?,
         })
-    }
-}
-
-#[tactic(auto, unfolding(eris_base::specs::TxnIds::same_id))]
-pub(crate) fn is_same_id(some: TxnId, other: TxnId) -> bool
-    ensures { result ≡ same_id some other }
-{
-    some.client.0 == other.client.0 && some.number == other.number
-}
-
-fn is_same_phase(some: Phase, other: Phase) -> bool
-    ensures { result ≡ same_phase some other }
-{
-    match (some, other) {
-        (Phase::Whole, Phase::Whole) => true,
-        (Phase::Prelim, Phase::Prelim) => true,
-        (Phase::Conclude, Phase::Conclude) => true,
-        _ => false,
     }
 }
 

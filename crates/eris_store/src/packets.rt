@@ -1,23 +1,12 @@
 ghost use Rattle.std.specs.Prelude.{◌≡◌, [], ◌∷◌, ◌++◌, IfOk, OnOk};
 ghost use Rattle.std.specs.List.{list_any};
 ghost use Rattle.eris_locks.specs.LockTable.{aborted_late, done};
-ghost use Rattle.eris_locks.specs.States.{holds, is_prelim, is_prelim_of, no_longer_holding, no_longer_waiting, phase_of, waits};
+ghost use Rattle.eris_locks.specs.States.{holds, is_prelim, is_prelim_of, no_longer_holding, no_longer_waiting, waits};
 
-use crate::ledger::is_same_id;
-use eris_base::{NoMemory, Phase, Place, Row, TxnId};
-use eris_locks::{Done, Held, ShardPacket};
+use eris_base::{NoMemory, Place, Row, TxnId, is_same_id};
+use eris_locks::{Done, Held, ShardPacket, phase_of};
 use eris_txn::{Answer, Body};
 use std::alloc::Global;
-
-pub(crate) fn phase_of(body: &Body) -> Phase
-    ensures { result ≡ phase_of body.now }
-{
-    match body {
-        Body::Independent(_) => Phase::Whole,
-        Body::Prelim(_) => Phase::Prelim,
-        Body::Commit(_, _) | Body::Abort(_) => Phase::Conclude,
-    }
-}
 
 pub(crate) fn is_prelim(body: &Body) -> bool
     ensures { result ≡ is_prelim body.now }

@@ -10,10 +10,10 @@ use crate::ledger::{Decided, Recorded, decide, find_decided, find_recorded, is_d
 use crate::locking::is_blocked;
 use crate::packets::{
     add_aborted_late, done_for, holds, is_prelim, no_longer_holding, no_longer_waiting, only,
-    phase_of, waits, waits_prelim,
+    waits, waits_prelim,
 };
 use eris_base::{Dup, NoMemory, Phase, Place, Row, TxnId};
-use eris_locks::{Done, Held, ShardPacket};
+use eris_locks::{Done, Held, ShardPacket, phase_of};
 use eris_txn::{Answer, Body, Key, Write};
 use std::alloc::Global;
 use std::marker::Model;

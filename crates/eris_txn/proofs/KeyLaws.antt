@@ -1,7 +1,6 @@
 -- Keys are totally ordered, and `same_key` tells exactly which ones are equal.
-use Rattle.std.proofs.Common.{◌≡◌, ℕ, true, false, nat_eq, ◌&&◌, ◌==◌, refl, ap, sym, ◌∙◌, arith, ◌⊎◌, inl, inr}
+use Rattle.std.proofs.Common.{◌≡◌, true, false, nat_eq, ◌&&◌, ◌==◌, refl, ap, sym, ◌∙◌, ◌⊎◌, inl, inr}
 use Rattle.std.proofs.lemmas.Bool.{cases_Bool}
-use Rattle.std.proofs.lemmas.Bool.Decides.{nat_tests}
 use Rattle.std.proofs.lemmas.Cmp.{nat_cmp_total, nat_list_cmp_total, on_total, then_total, eq_by_cmp_equiv}
 use Rattle.std.proofs.lemmas.Map.Lookups.{CmpEqualImpliesEq, exact_unsigned, exact_bytes, exact_pairs}
 use Rattle.std.specs.Cmp.{IsTotalOrder}
@@ -9,6 +8,7 @@ use Rattle.std.specs.Cmp.Lexicographic.{slice_cmp, texts_ties}
 use Rattle.std.specs.Ordering.{nat_cmp, ordering_then, is_eq}
 use Rattle.std.specs.declared.cmp.Ordering.{Ordering}
 use Rattle.std.specs.declared.cmp.Ordering.TheVariants.{Less, Equal, Greater}
+use Rattle.eris_base.proofs.Orders.{equal_from, nat_tie}
 use lib.Pointwise.{pointwise}
 use Rattle.eris_txn.specs.declared.key.Key.{Key}
 use Rattle.eris_txn.specs.Keys.{key_cmp, same_key}
@@ -21,11 +21,6 @@ pub key_cmp-exact : CmpEqualImpliesEq key_cmp
 key_cmp-exact some other tied =
     ap (λ parts. record { shard = record { 0 = parts.0 }; name = parts.1 })
     (exact_pairs nat_cmp (slice_cmp nat_cmp) exact_unsigned exact_bytes (some.shard.0, some.name) (other.shard.0, other.name) tied)
-
-equal_from : (o : Ordering) → is_eq o ≡ true → o ≡ Equal
-equal_from Less h = cc
-equal_from Equal h = refl
-equal_from Greater h = cc
 
 pub same_key-true : (some other : Key) → same_key some other ≡ true → some ≡ other
 unfolding same_key
@@ -46,9 +41,6 @@ same_key-false some other differ = by_test (cases_Bool (same_key some other))
     by_test : ((same_key some other ≡ true) ⊎ (same_key some other ≡ false)) → same_key some other ≡ false
     by_test (inl h) = absurd (differ (same_key-true some other h))
     by_test (inr h) = h
-
-nat_tie : (m n : ℕ) → (m == n) ≡ is_eq (nat_cmp m n)
-nat_tie m n = grind (arith, nat_tests)
 
 is_eq-then : (o p : Ordering) → is_eq (ordering_then o p) ≡ (is_eq o && is_eq p)
 is_eq-then Less p = refl

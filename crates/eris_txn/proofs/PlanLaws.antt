@@ -3,6 +3,7 @@ use Rattle.std.proofs.Common.{◌≡◌, ℕ, Bool, true, false, cond, ◌||◌,
 use Rattle.std.proofs.lemmas.Bool.{or_parts, or_from, and_parts, cond_both, ltb-false, eqb-false, le-ltb, ne_eqb}
 use Rattle.std.specs.List.{list_all}
 use Rattle.eris_txn.specs.declared.key.Key.{Key}
+use Rattle.eris_txn.specs.declared.lock.Lock.{Lock}
 use Rattle.eris_txn.specs.declared.plan.Guard.{Guard}
 use Rattle.eris_txn.specs.declared.plan.PlanFault.{PlanFault}
 use Rattle.eris_txn.specs.declared.plan.PlanFault.TheVariants.{TooMany, Empty, RepeatedKey, UnlockedKey}
@@ -12,7 +13,7 @@ use Rattle.eris_txn.specs.Keys.{same_key, Values, with_value}
 use Rattle.eris_txn.specs.PlanFacts.{IsPlan}
 use Rattle.eris_txn.specs.PlanFaults.{is_among, repeats, sets, sets_twice, all_locked, plan_fault}
 use Rattle.eris_txn.specs.PlanValues.{PlanValue}
-use Rattle.eris_txn.specs.Plans.{value_in, guard_holds, guards_hold, set_by, settled, write_of, writes_from, written, writes_of}
+use Rattle.eris_txn.specs.Plans.{locks_in, value_in, guard_holds, guards_hold, set_by, settled, write_of, writes_from, written, writes_of}
 use Rattle.eris_txn.proofs.KeyLaws.{same_key-true, same_key-symm}
 use Rattle.eris_txn.proofs.ValueLaws.{with_value-other}
 
@@ -126,3 +127,8 @@ writes_of-settles plan have facts =
     (cond_both (guards_hold plan.guards have) (Some (writes_from plan.settings have)) None P
     (λ holds. sym (settled-written plan.settings have facts.sets_once))
     (λ fails. fails))
+
+-- the keys of a plan's locks are its keys
+pub locked_keys : (settings : List Setting) (keys : List Key) → map (λ (lock : Lock). lock.key) (locks_in settings keys) ≡ keys
+locked_keys settings [] = refl
+locked_keys settings (key ∷ keys) = ap (λ (rest : List Key). key ∷ rest) (locked_keys settings keys)

@@ -1,12 +1,11 @@
 ghost use Rattle.std.specs.Prelude.{◌≡◌, Some, None, IfOk, IfErr, IsTrue, OnOk, OnErr, map};
 ghost use Rattle.eris_base.specs.declared.ids.ShardId.{ShardId};
-ghost use Rattle.eris_txn.specs.declared.key.Key.{Key};
 ghost use Rattle.eris_txn.specs.Bodies.{with_shard, shards_of, participants_of, ascends_from, has_shard, any_on, keys_of};
-ghost use Rattle.eris_txn.specs.Operations.{key_of};
 ghost use Rattle.eris_txn.specs.Sizes.{is_few, body_has_size};
 
 use crate::key::Key;
 use crate::lock::Lock;
+use crate::of_key::OfKey;
 use crate::op::Op;
 use crate::plan::Write;
 use eris_base::{Dup, NoMemory, Row, Same, ShardId};
@@ -81,38 +80,6 @@ impl Same for Body {
     }
 }
 
-/// What speaks of one key.
-trait Keyed {
-    ghost key_in: { Self → Key };
-
-    fn shard(&self) -> ShardId
-        ensures { result ≡ (key_in self.now).shard };
-}
-
-impl Keyed for Key {
-    ghost key_in = { λ key. key };
-
-    fn shard(&self) -> ShardId {
-        self.shard
-    }
-}
-
-impl Keyed for Op {
-    ghost key_in = { key_of };
-
-    fn shard(&self) -> ShardId {
-        self.key().shard
-    }
-}
-
-impl Keyed for Lock {
-    ghost key_in = { λ lock. lock.key };
-
-    fn shard(&self) -> ShardId {
-        self.key.shard
-    }
-}
-
 /// The shards of the body's operations, locks or keys, ascending, each once.
 #[tactic(auto, using(crate::proofs::BodyLaws::participant_laws))]
 pub fn participants(alloc: Global, body: &Body) -> Result<Row<ShardId>, NoMemory>
@@ -137,7 +104,7 @@ fn shards_of_body(alloc: Global, body: &Body) -> Result<Row<ShardId>, NoMemory>
     }
 }
 
-fn shards_of<T: Keyed>(alloc: Global, items: &[T]) -> Result<Row<ShardId>, NoMemory>
+fn shards_of<T: OfKey>(alloc: Global, items: &[T]) -> Result<Row<ShardId>, NoMemory>
     ensures { IfOk result (λ shards. shards ≡ shards_of (map T.key_in items.now)) }
 {
     let mut shards = Row::new(alloc);

@@ -19,7 +19,7 @@ use Rattle.eris_script.specs.LineForms.{line_behind, line_of, said_by, submit_of
 use Rattle.eris_script.specs.OpForms.{all_ops, op as op_form, op_behind, ops_of}
 use Rattle.eris_rules.specs.Runs.{run}
 use Rattle.eris_undisturbed_law.specs.Undisturbed.{IsUndisturbedScript, packets_for_all}
-use Rattle.eris_undisturbed_law.proofs.Opened.{all_rules}
+use Rattle.eris_rules.proofs.Opened.{all_rules}
 
 -- a system of so many shards, faults and clients, and words for what happens to it
 abbrev system : ℕ → ℕ → ℕ → ConfigValue

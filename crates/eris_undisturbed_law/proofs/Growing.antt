@@ -20,6 +20,7 @@ use Rattle.eris_rules.specs.Happenings.{aborts_plan, after_client, after_coordin
 use Rattle.eris_rules.specs.ReplicaStates.{ReplicaState}
 use Rattle.eris_rules.specs.Runs.{run_from, world_after}
 use Rattle.eris_rules.specs.Worlds.{WorldState, client_at, has_crashed, no_longer_waiting, replica_at, with_sends}
+use Rattle.eris_rules.proofs.RunLaws.{none_run}
 use Rattle.eris_agreement.proofs.Moments.{taken}
 use Rattle.eris_epoch_law.specs.Members.{In}
 use Rattle.eris_calm_law.proofs.Moving.{Keeps}
@@ -94,11 +95,6 @@ happens_grow config world (Event.Crash shard replica) = λ event i. i
 happens_grow config world Event.Nudge = λ event i. i
 happens_grow config world Event.Replace = λ event i. i
 happens_grow config world (Event.Noise node bytes) = λ event i. i
-
--- what was refused gives no world
-pub none_run : (config : ConfigValue) (events : List Event) (last : WorldState) → run_from config None events ≡ Some last → ⊥
-unfolding run_from
-none_run config events last h = absurd (cc)
 
 -- AND A RUN
 pub run_grows : (config : ConfigValue) (world : WorldState) (events : List Event) (last : WorldState) → run_from config (Some world) events ≡ Some last → Grows world last

@@ -3,5 +3,4 @@ pub mod Starting
 pub mod Running
 pub mod Answered
 pub mod Lines
-mod Opened
 mod Examples

@@ -18,6 +18,7 @@ use Rattle.eris_rules.specs.Happenings.{after_client, happens}
 use Rattle.eris_rules.specs.Refusals.{cause}
 use Rattle.eris_rules.specs.Runs.{run_from, world_after}
 use Rattle.eris_rules.specs.Worlds.{WorldState, with_sends}
+use Rattle.eris_rules.proofs.RunLaws.{none_run}
 use Rattle.eris_agreement.proofs.Moments.{taken}
 use Rattle.eris_course_law.specs.Accepted.{AreEventsFit, IsEventFit}
 use Rattle.eris_calm_law.specs.Calm.{IsCalm, Submitted}
@@ -26,7 +27,7 @@ use Rattle.eris_calm_step_law.specs.CalmEvents.{crashes_on, is_calm, packets_for
 use Rattle.eris_calm_step_law.proofs.Stepping.{WasTaken, was_taken, after_calm, after_flow, some_ops, weaker}
 use Rattle.eris_calm_step_law.proofs.Submitting.{client_is, takes_submission}
 use Rattle.eris_undisturbed_law.specs.Undisturbed.{crashes, packets_for_all}
-use Rattle.eris_undisturbed_law.proofs.Growing.{none_run, run_grows}
+use Rattle.eris_undisturbed_law.proofs.Growing.{run_grows}
 
 module _ (config : ConfigValue) where
   count_one : (b : Bool) (event : Event) (rest : List Event) → one_if b + length rest ≡ length (cond b (event ∷ rest) rest)

@@ -3,7 +3,7 @@ use Rattle.std.proofs.Common.{◌≡◌, ◌<◌, ◌+◌, ℕ, zero, suc, true,
 use Rattle.std.proofs.lemmas.Bool.{ltb-true}
 use Rattle.std.proofs.lemmas.List.{length-replicate}
 use Rattle.std.specs.List.{range_with_len}
-use Rattle.std.specs.Prelude.{slice_get, slice_index}
+use Rattle.std.specs.Prelude.{slice_get}
 use Rattle.eris_base.specs.declared.ids.ClientId.{ClientId}
 use Rattle.eris_base.specs.declared.ids.ReplicaId.{ReplicaId}
 use Rattle.eris_base.specs.declared.ids.ShardId.{ShardId}
@@ -16,13 +16,9 @@ use Rattle.eris_rules.specs.ClientStates.{ClientState, first_client}
 use Rattle.eris_rules.specs.Known.{knows_client}
 use Rattle.eris_rules.specs.ReplicaStates.{begun, first_state, fresh}
 use Rattle.eris_rules.specs.Worlds.{client_at, first_replicas, first_world, in_row, replica_at}
+use Rattle.eris_epoch_law.proofs.StampList.{zero_counter}
 use Rattle.eris_calm_law.specs.Calm.{IsCalm, IsCell}
 use Rattle.eris_calm_law.specs.Received.{state_after}
-
-no_count : (many i : ℕ) → slice_index (replicate many 0) i ≡ 0
-no_count zero i = refl
-no_count (suc many) zero = refl
-no_count (suc many) (suc i) = no_count many i
 
 one_of_many : {X : Type 0} (many i : ℕ) (x : X) → i < many → slice_get (replicate many x) i ≡ Some x
 one_of_many zero i x low = absurd (omega arith)
@@ -48,7 +44,7 @@ module _ (config : ConfigValue) where
   first_cell shard replica low high = record {
     taken = 0;
     low = omega arith;
-    counter = (let none = no_count config.shards shard.0 in omega (arith, none));
+    counter = (let none = zero_counter config.shards shard.0 in omega (arith, none));
     numbered = tt;
     lives = λ up. record { packets = []; at = starts shard replica low high; many = refl; whole = tt };
   }

@@ -1,6 +1,6 @@
 -- Acknowledged lengths: one more, and how far a quorum has come.
 use Rattle.std.proofs.Common.{◌≡◌, ◌≤◌, ◌<◌, ◌+◌, ◌-◌, ℕ, zero, suc, Bool, true, false, ◌&&◌, ◌==◌, nat_lt, cond, Option, Some, None, List, [], ◌∷◌, length, get_or, take, set, max, min, refl, ap, sym, ◌∙◌, arith, ◌⊎◌, inl, inr}
-use Rattle.std.proofs.lemmas.Bool.{and_parts, and_from, cond-true, cond-false, ltb-true, ltb-false, lt-ltb, le-ltb, eq-eqb, ne_eqb, eqb-true, eqb-false}
+use Rattle.std.proofs.lemmas.Bool.{and_parts, and_from, cond-true, cond-false, ltb-true, ltb-false, lt-ltb, le-ltb, eq-eqb, ne_eqb, eqb-true, eqb-false, leb-true, le-leb}
 use Rattle.std.proofs.lemmas.Bool.Decides.{nat_tests}
 use Rattle.std.proofs.lemmas.List.Sums.{sum_by-cons}
 use Rattle.std.specs.Ordering.{nat_cmp, ord_max}
@@ -13,12 +13,6 @@ use Rattle.eris_view.specs.AckTallies.{AckTallyValue, with_ack, how_many_have, q
 
 abbrev pub Ack : Type 0
 Ack = ReplicaId × ℕ
-
-pub le_from : (a b : ℕ) → nat_le a b ≡ true → a ≤ b
-le_from a b h = grind (arith, nat_tests)
-
-le_to : (a b : ℕ) → a ≤ b → nat_le a b ≡ true
-le_to a b h = grind (arith, nat_tests)
 
 pub not_le_from : (a b : ℕ) → nat_le a b ≡ false → b < a
 not_le_from a b h = grind (arith, nat_tests)
@@ -73,7 +67,7 @@ module _ (P : Ack → Type 0) where
     where
       by_test : (t : Bool) → nat_le number ack.1 ≡ t → 1 ≤ cond t 1 0 + how_many_have acks number → (1 ≤ how_many_have acks number → (ack : Ack) × ((number ≤ ack.1) × P ack))
           → (ack : Ack) × ((number ≤ ack.1) × P ack)
-      by_test true is some more = (ack, (le_from number ack.1 is, all.0))
+      by_test true is some more = (ack, (leb-true number ack.1 is, all.0))
       by_test false is some more = more (omega arith)
 
   -- where fewer have the next number, some length is the number
@@ -93,7 +87,7 @@ module _ (P : Ack → Type 0) where
           by_second false fewer more = more (omega arith)
       by_tests false next false is fewer more = more (omega arith)
       by_tests false next true is fewer more =
-          let low = le_from number ack.1 is in let high = not_le_from (number + 1) ack.1 next in
+          let low = leb-true number ack.1 is in let high = not_le_from (number + 1) ack.1 next in
           (ack, (omega arith, all.0))
 
 -- ---- the greatest number that passes
@@ -132,7 +126,7 @@ greatest-above test (suc bound) number passes le = by_test (test (suc bound)) re
 -- ---- how far a quorum has come
 at_most_own : (tally : AckTallyValue) (own number : ℕ) → quorum_has tally own number ≡ true → number ≤ own
 unfolding quorum_has
-at_most_own tally own number has = le_from number own (and_parts _ _ has).0
+at_most_own tally own number has = leb-true number own (and_parts _ _ has).0
 
 pub IsSettled-settled : (tally : AckTallyValue) (own : ℕ) → IsSettled tally own (settled tally own)
 unfolding settled
@@ -179,7 +173,7 @@ module _ (cells : List (Option ℕ)) (f own : ℕ) where
     where
       by_test : (t : Bool) → nat_le f (how_many_have (acks_from 0 cells) (min len own)) ≡ t
           → (cond t (min len own) 0 ≡ 0) ⊎ ((nat_le (cond t (min len own) 0) own && nat_le f (how_many_have (acks_from 0 cells) (cond t (min len own) 0))) ≡ true)
-      by_test true is = inr (and_from _ _ (le_to (min len own) own (omega arith)) is)
+      by_test true is = inr (and_from _ _ (le-leb (min len own) own (omega arith)) is)
       by_test false is = inl refl
 
 -- ---- what a walk over the lengths finds
@@ -188,8 +182,8 @@ pub IsSettled-no_faults : (cells : List (Option ℕ)) (own : ℕ) → IsSettled 
 unfolding quorum_has
 IsSettled-no_faults cells own = record {
   within = omega arith;
-  shared = inr (and_from _ _ (le_to own own (omega arith)) (le_to 0 _ (omega arith)));
-  greatest = λ other has. le_from other own (and_parts _ _ has).0;
+  shared = inr (and_from _ _ (le-leb own own (omega arith)) (le-leb 0 _ (omega arith)));
+  greatest = λ other has. leb-true other own (and_parts _ _ has).0;
 }
 
 pub far-none : (cells : List (Option ℕ)) (f own : ℕ) → IsFarSoFar cells f own [] 0
@@ -224,7 +218,7 @@ far-more cells f own at number lt so_far = record {
     greater_shares a b h k = by_test (nat_le a b) refl
       where
         by_test : (t : Bool) → nat_le a b ≡ t → (max a b ≡ 0) ⊎ (quorum_has (tally_of cells f own) own (max a b) ≡ true)
-        by_test true le = let low = le_from a b le in let e : max a b ≡ b = omega arith in rw e k
+        by_test true le = let low = leb-true a b le in let e : max a b ≡ b = omega arith in rw e k
         by_test false gt = let high = not_le_from a b gt in let e : max a b ≡ a = omega arith in rw e h
 
 module _ (cells : List (Option ℕ)) (f own number : ℕ) where
@@ -237,7 +231,7 @@ module _ (cells : List (Option ℕ)) (f own number : ℕ) where
   offers-acks from [] all = tt
   offers-acks from (None ∷ seen) all = offers-acks (from + 1) seen all.1
   offers-acks from (Some len ∷ seen) all =
-      (λ enough. let e = cond-true (nat_le f (how_many_have (acks_from 0 cells) (min len own))) (min len own) 0 (le_to _ _ enough) in omega (arith, all.0), offers-acks (from + 1) seen all.1)
+      (λ enough. let e = cond-true (nat_le f (how_many_have (acks_from 0 cells) (min len own))) (min len own) 0 (le-leb _ _ enough) in omega (arith, all.0), offers-acks (from + 1) seen all.1)
 
   reaches : (gap other : ℕ) → other + gap ≡ own → 1 ≤ f → Each IsOffered (acks_from 0 cells) → f ≤ how_many_have (acks_from 0 cells) other → other ≤ number
   reaches zero other e some all enough =
@@ -247,7 +241,7 @@ module _ (cells : List (Option ℕ)) (f own number : ℕ) where
   reaches (suc gap) other e some all enough = by_test (nat_le f (how_many_have (acks_from 0 cells) (other + 1))) refl (λ more. reaches gap (other + 1) (omega arith) some all more)
     where
       by_test : (t : Bool) → nat_le f (how_many_have (acks_from 0 cells) (other + 1)) ≡ t → (f ≤ how_many_have (acks_from 0 cells) (other + 1) → other + 1 ≤ number) → other ≤ number
-      by_test true more rest = let le = rest (le_from _ _ more) in omega arith
+      by_test true more rest = let le = rest (leb-true _ _ more) in omega arith
       by_test false fewer rest =
           let below = not_le_from _ _ fewer in
           let here = some_is IsOffered (acks_from 0 cells) other (omega arith) all in
@@ -263,8 +257,8 @@ IsSettled-far cells f own number some far = record {
   shared = far.shared;
   greatest = λ other has.
       let parts = and_parts _ _ has in
-      let within = le_from other own parts.0 in
-      reaches cells f own number (own - other) other (omega arith) some (offers-acks cells f own number 0 cells far.offers) (le_from f _ parts.1);
+      let within = leb-true other own parts.0 in
+      reaches cells f own number (own - other) other (omega arith) some (offers-acks cells f own number 0 cells far.offers) (leb-true f _ parts.1);
 }
 
 pub ord_max-max : (a b : ℕ) → ord_max nat_cmp a b ≡ max a b

@@ -1,6 +1,6 @@
 -- What the tallies say of quorums.
 use Rattle.std.proofs.Common.{◌≡◌, ◌≤◌, ◌<◌, ℕ, Bool, true, false, nat_lt, cond, List, [], ◌∷◌, Some, max, refl, ap, sym, subst, arith, inl, inr}
-use Rattle.std.proofs.lemmas.Bool.{and_parts, lt-ltb, ltb-true, eqb-true}
+use Rattle.std.proofs.lemmas.Bool.{and_parts, lt-ltb, ltb-true, eqb-true, leb-true}
 use Rattle.std.proofs.lemmas.Cmp.{nat_cmp_total}
 use Rattle.std.proofs.lemmas.List.Sums.{length-filter}
 use Rattle.std.specs.List.{list_any}
@@ -15,7 +15,7 @@ use Rattle.eris_log.specs.Growth.{OfOneShard}
 use Rattle.eris_log.specs.PartValues.{PartValue}
 use Rattle.eris_log.specs.Sorted.{ascends_from}
 use Rattle.eris_log.specs.Laws.Sorted.{below_from, below_lower, ascends_tail, ascends_after}
-use Rattle.eris_view.proofs.Acks.{Ack, le_from, not_le_from, IsSettled-settled}
+use Rattle.eris_view.proofs.Acks.{Ack, not_le_from, IsSettled-settled}
 use Rattle.eris_view.proofs.NotedParts.{replicas_ascend-with_part}
 use Rattle.eris_view.proofs.Replicas.{number_of, IsBelow, less_when, less_else, different-new, in_order-filter, absent-filter}
 use Rattle.eris_view.specs.AckTallies.{AckTallyValue, with_ack, how_many_have, quorum_has, settled}
@@ -88,7 +88,7 @@ each-with_ack Said (ack ∷ acks) replica len all one =
     by_tests (nat_lt replica.0 ack.0.0) (same_replica replica ack.0) refl (each-with_ack Said acks replica len all.1 one)
   where
     greater : (t : Bool) → nat_le ack.1 len ≡ t → Said replica ack.1 → Said replica (max ack.1 len)
-    greater true le said = let low = le_from ack.1 len le in let e : max ack.1 len ≡ len = omega arith in rw e one
+    greater true le said = let low = leb-true ack.1 len le in let e : max ack.1 len ≡ len = omega arith in rw e one
     greater false gt said = let high = not_le_from ack.1 len gt in let e : max ack.1 len ≡ ack.1 = omega arith in rw e said
 
     by_tests : (t s : Bool) → same_replica replica ack.0 ≡ s → Each (λ ack. Said ack.0 ack.1) (with_ack acks replica len)
@@ -138,10 +138,10 @@ settled_is_shared_by_quorum tally own own_length h absent some = elim (IsSettled
     shared : quorum_has tally own_length number ≡ true → IsSharedByQuorum tally own own_length number
     shared has =
         let parts = and_parts _ _ has in
-        let enough = le_from tally.f _ parts.1 in
+        let enough = leb-true tally.f _ parts.1 in
         let many = length-filter (λ (ack : Ack). nat_le number ack.1) tally.acks in
         let different = different-new have own (in_order-filter _ tally.acks h) (absent-filter _ own tally.acks absent) in
-        record { own_has = le_from number own_length parts.0; quorum = lt-ltb _ _ (omega arith) }
+        record { own_has = leb-true number own_length parts.0; quorum = lt-ltb _ _ (omega arith) }
 
 -- each of these others has a length of at least the number that it acknowledged, with all that holds of what
 -- was acknowledged
@@ -153,5 +153,5 @@ each_holder_has Said (ack ∷ acks) number all = by_test (nat_le number ack.1) r
   where
     by_test : (t : Bool) → nat_le number ack.1 ≡ t → Each (λ replica. (len : ℕ) × ((number ≤ len) × Said replica len)) (holders acks number)
         → Each (λ replica. (len : ℕ) × ((number ≤ len) × Said replica len)) (map (λ ack. ack.0) (cond t (ack ∷ filter (λ ack. nat_le number ack.1) acks) (filter (λ ack. nat_le number ack.1) acks)))
-    by_test true has more = ((ack.1, (le_from number ack.1 has, all.0)), more)
+    by_test true has more = ((ack.1, (leb-true number ack.1 has, all.0)), more)
     by_test false has more = more

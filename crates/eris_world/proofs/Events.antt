@@ -99,7 +99,7 @@ ops_known config [] = refl
 ops_known config (op ∷ ops) = ap (λ z. nat_lt (key_of op).shard.0 config.shards && z) (ops_known config ops)
 
 -- ---- noise
-second_none : (one other : Option Refusal) → option_or one other ≡ None → other ≡ None
+pub second_none : (one other : Option Refusal) → option_or one other ≡ None → other ≡ None
 second_none None other h = h
 second_none (Some told) other h = absurd cc
 

@@ -1,6 +1,5 @@
 //! What each kind of node does, other than on the bytes that come to it, and what becomes of the world by it.
 ghost use Rattle.std.specs.Prelude.{◌≡◌, false, true, IfErr, OnErr, OnOk};
-ghost use Rattle.std.specs.List.{list_any};
 ghost use Rattle.eris_coord.specs.Fitting.{InputFits as CoordInputFits};
 ghost use Rattle.eris_msg.specs.Spellings.{message_fits};
 ghost use Rattle.eris_network.specs.Limits.{IsMetBy};
@@ -8,14 +7,14 @@ ghost use Rattle.eris_nodes.specs.Acts.{acts};
 ghost use Rattle.eris_nodes.specs.Allowed.{CanActAt};
 ghost use Rattle.eris_replica.specs.ReplicaValues.{InputFits};
 ghost use Rattle.eris_rules.specs.Happenings.{client_acts, coordinator_takes, replica_takes, sequencer_takes};
-ghost use Rattle.eris_rules.specs.Worlds.{has_crashed, same_replica_of, with_event};
+ghost use Rattle.eris_rules.specs.Worlds.{has_crashed, with_event};
 ghost use Rattle.eris_world.specs.Becoming.{Becomes};
 
 use crate::world::World;
 use eris_base::{ClientId, Epoch, NoMemory, ReplicaId, Row, ShardId};
 use eris_msg::Message;
 use eris_network::SendFault;
-use eris_nodes::Act;
+use eris_nodes::{Act, has_crashed};
 use eris_rules::{CoordInput, ReplicaInput};
 use eris_txn::HistoryEvent;
 
@@ -130,15 +129,6 @@ impl World {
     {
         has_crashed(self.crashed.as_slice(), shard, replica)
     }
-}
-
-#[tactic(auto, unfolding(eris_rules::specs::Worlds::has_crashed))]
-fn has_crashed(crashed: &[(ShardId, ReplicaId)], shard: ShardId, replica: ReplicaId) -> bool
-    ensures { result ≡ list_any (same_replica_of shard replica) crashed.now }
-{
-    crashed
-        .iter()
-        .any(|pair| pair.0.0 == shard.0 && pair.1.0 == replica.0)
 }
 
 /// What happened, if anything did, stands in the history.

@@ -11,6 +11,7 @@ use Rattle.std.specs.declared.cmp.Ordering.TheVariants.{Less}
 use Rattle.eris_base.specs.declared.ids.Place.{Place}
 use Rattle.eris_base.specs.declared.stamp.Stamp.{Stamp}
 use Rattle.eris_base.specs.StampPlaces.{has_place}
+use Rattle.eris_base.proofs.Orders.{nat_tie}
 use Rattle.eris_txn.specs.declared.packet.Packet.{Packet}
 use Rattle.eris_log.specs.declared.entry.Entry.{Entry}
 use Rattle.eris_log.specs.declared.entry.Entry.TheVariants.{Dropped, Txn, Gap}
@@ -22,7 +23,7 @@ use Rattle.eris_log.specs.PartValues.{PartValue}
 use Rattle.eris_log.specs.Places.{same_place, contains_place, places_of, any_among}
 use Rattle.eris_log.specs.Sorted.{item_at}
 use Rattle.eris_log.specs.Laws.Held.{packet_at-item_at, item_at-find}
-use Rattle.eris_log.specs.Laws.Places.{nat_tie, same_place-true, same_place-refl}
+use Rattle.eris_log.specs.Laws.Places.{same_place-true, same_place-refl}
 use Rattle.eris_log.specs.Laws.Sorted.{Below, below_from, below_lower, ascends_tail, item_at-below}
 
 -- ---- the places of a stamp among others

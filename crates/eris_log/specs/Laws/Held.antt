@@ -6,11 +6,11 @@ use Rattle.std.specs.List.{AllByRecursion}
 use Rattle.std.specs.Option.{option_or, option_map}
 use Rattle.std.specs.Ordering.{nat_cmp, is_eq}
 use Rattle.std.specs.Prelude.{find}
+use Rattle.eris_base.proofs.Orders.{nat_tie}
 use Rattle.eris_txn.specs.declared.packet.Packet.{Packet}
 use Rattle.eris_log.specs.Held.{numbers_ascend, count_from_one, packet_at, with_packet, with_packets}
 use Rattle.eris_log.specs.PartFacts.{AreHeld}
 use Rattle.eris_log.specs.Sorted.{item_at, with_item, union}
-use Rattle.eris_log.specs.Laws.Places.{nat_tie}
 use Rattle.eris_log.specs.Laws.Sorted.{item_at-with_item, item_at-union, ascends-with_item, ascends-union, all-with_item, all-union, union-assoc, union-idem, union-comm}
 
 pub item_at-find : (held : List (ℕ × Packet)) (number : ℕ) → item_at (λ pair. pair.0) nat_cmp held number ≡ find (λ pair. pair.0 == number) held

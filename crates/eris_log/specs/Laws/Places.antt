@@ -1,7 +1,6 @@
 -- What holds of ascending places.
 use Rattle.std.proofs.Common.{◌≡◌, ◌<◌, ◌≤◌, ℕ, Bool, true, false, ◌&&◌, ◌||◌, ◌==◌, nat_lt, cond, Option, Some, None, Result, Ok, Err, OnOk, OnErr, IfOk, is_some, List, [], ◌∷◌, IsTrue, map, refl, ap, sym, ◌∙◌, subst, arith, ◌⊎◌, inl, inr}
 use Rattle.std.proofs.lemmas.Bool.{and_parts, and_from, or_cases, cond-true, cond-false, eqb-true, eq-eqb, ne_eqb, ltb-true}
-use Rattle.std.proofs.lemmas.Bool.Decides.{nat_tests}
 use Rattle.std.proofs.lemmas.Cmp.{nat_cmp_total, on_total, then_total, tied_itself}
 use Rattle.std.proofs.lemmas.Map.Lookups.{CmpEqualImpliesEq, exact_unsigned, exact_pairs}
 use Rattle.std.specs.Cmp.{IsTotalOrder}
@@ -17,6 +16,7 @@ use Rattle.eris_base.specs.declared.ids.ShardId.{ShardId}
 use Rattle.eris_base.specs.declared.stamp.Stamp.{Stamp}
 use Rattle.eris_base.specs.Places.{is_later, ascends_from as shards_ascend_from, are_stamp_places, number_in}
 use Rattle.eris_base.specs.StampPlaces.{has_place, is_number}
+use Rattle.eris_base.proofs.Orders.{equal_from, nat_tie}
 use Rattle.eris_log.specs.PartFacts.{AreMarks}
 use Rattle.eris_log.specs.Places.{place_cmp, same_place, contains_place, places_ascend, are_of_epoch, with_place, with_places, places_of}
 use Rattle.eris_log.specs.Sorted.{is_above, ascends, ascends_from, item_at, with_item, union}
@@ -26,14 +26,6 @@ pub place_cmp-total : IsTotalOrder place_cmp
 place_cmp-total =
     then_total (on_total (λ (place : Place). place.epoch.0) nat_cmp_total)
     (then_total (on_total (λ (place : Place). place.shard.0) nat_cmp_total) (on_total (λ (place : Place). place.number) nat_cmp_total))
-
-equal_from : (o : Ordering) → is_eq o ≡ true → o ≡ Equal
-equal_from Less h = cc
-equal_from Equal h = refl
-equal_from Greater h = cc
-
-pub nat_tie : (m n : ℕ) → (m == n) ≡ is_eq (nat_cmp m n)
-nat_tie m n = grind (arith, nat_tests)
 
 tests : (a b c : Bool) (o p q : Ordering) → a ≡ is_eq o → b ≡ is_eq p → c ≡ is_eq q → ((a && b) && c) ≡ is_eq (ordering_then o (ordering_then p q))
 tests a b c Less p q e f g = rw e refl

@@ -12,17 +12,9 @@ use Rattle.std.proofs.lemmas.Bool.{and_parts, and_from, cond-true, cond-false, c
 use Rattle.std.proofs.lemmas.Cmp.{tied_itself, tied_back, alike_right}
 use Rattle.std.proofs.lemmas.List.Sorted.{searchable_from_sorted}
 use Rattle.std.proofs.lemmas.Option.{slice_get-get_or}
+use Rattle.eris_base.proofs.Orders.{equal_from, less_from}
+use Rattle.eris_base.proofs.Booleans.{none_from}
 use Rattle.eris_log.specs.Sorted.{is_above, ascends_from, ascends, item_at, placed, with_item, union, items_from, head_at, IsFoundAt, IsFreeAt, StartsUnion}
-
-less_from : (o : Ordering) → is_lt o ≡ true → o ≡ Less
-less_from Less h = refl
-less_from Equal h = cc
-less_from Greater h = cc
-
-equal_from : (o : Ordering) → is_eq o ≡ true → o ≡ Equal
-equal_from Less h = cc
-equal_from Equal h = refl
-equal_from Greater h = cc
 
 -- neither less nor equal
 greater_from : (o : Ordering) → is_lt o ≡ false → is_eq o ≡ false → o ≡ Greater
@@ -33,10 +25,6 @@ greater_from Greater h e = refl
 is_some-cond : {A : Type 0} (b : Bool) (x : A) (o : Option A) → is_some (cond b (Some x) o) ≡ false → (b ≡ false) × (is_some o ≡ false)
 is_some-cond true x o h = cc
 is_some-cond false x o h = (refl, h)
-
-none_from : {A : Type 0} (o : Option A) → is_some o ≡ false → o ≡ None
-none_from None h = refl
-none_from (Some x) h = cc
 
 module _ {X K : Type 0} (key : X → K) {cmp : K → K → Ordering} (o : IsTotalOrder cmp) where
   greater_turned : (a b : K) → cmp a b ≡ Greater → cmp b a ≡ Less

@@ -1,9 +1,9 @@
 use Rattle.std.proofs.Common.{◌≡◌, ◌∷◌, ◌++◌, [], true, is_some, ap, sym, ◌∙◌}
 use Rattle.eris_base.specs.contracts.ids.TxnIdPartialEq.TheImpl as derived
+use Rattle.eris_base.proofs.Booleans.{none_from}
 use Rattle.indexmap.proofs.CallerLemmas.{insert_entry-new}
 use Rattle.eris_audit.specs.Histories.{first_submit}
 use Rattle.eris_audit.proofs.SubmitTable.{other_event, later_submit, new_submit, found_submit}
-use Rattle.eris_audit.proofs.TableLines.{none_from}
 use Rattle.eris_audit.proofs.tables.add_event.Goals as goal
 
 pub returns-in_default : goal.returns-in_default

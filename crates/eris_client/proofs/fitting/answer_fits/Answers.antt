@@ -11,6 +11,6 @@ use Rattle.eris_client.proofs.fitting.answer_fits.Goals as goal
 pub returns : goal.returns
 returns c =
     c.fits_half.ensures
-    ∙ ap (λ (phase : Phase). fits_half phase c.count_of.result c.args.answer.now) c.phase_of.ensures
+    ∙ ap (λ (phase : Phase). fits_half phase c.count_of.result c.args.answer.now) c.course_phase.ensures
     ∙ ap (λ (count : ℕ). fits_half (phase_of (body_of c.args.course.now)) count c.args.answer.now) (c.count_of.ensures ∙ ap (λ (shards : List ShardId). count_of shards c.args.shard) c.requires)
     ∙ sym (fits_by_items (body_of c.args.course.now) c.args.shard c.args.answer.now)

@@ -6,4 +6,4 @@ use Rattle.eris_in_place.proofs.known.knows_keys.Goals as goal
 
 pub returns : goal.returns
 unfolding knows_keys
-returns g c = c.are_known.ensures ∙ sym (list_all-map (λ (key : Key). knows_shard c.args.config.now key.shard) g.T.Keyed.key_in c.args.items.now)
+returns g c = c.are_known.ensures ∙ sym (list_all-map (λ (key : Key). knows_shard c.args.config.now key.shard) g.T.OfKey.key_in c.args.items.now)

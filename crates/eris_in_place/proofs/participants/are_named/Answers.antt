@@ -5,4 +5,4 @@ use Rattle.eris_txn.specs.declared.key.Key.{Key}
 use Rattle.eris_in_place.proofs.participants.are_named.Goals as goal
 
 pub returns : goal.returns
-returns g c = c.each_is_named.ensures ∙ sym (list_all-map (λ (key : Key). is_some (number_in c.args.stamp.now.places key.shard)) g.T.Keyed.key_in c.args.items.now)
+returns g c = c.each_is_named.ensures ∙ sym (list_all-map (λ (key : Key). is_some (number_in c.args.stamp.now.places key.shard)) g.T.OfKey.key_in c.args.items.now)

@@ -2,8 +2,8 @@ use Rattle.std.proofs.Common.{◌≡◌, ◌+◌, ℕ, Some, None, is_some, cond
 use Rattle.std.proofs.lemmas.Bool.{cond-true, cond-false}
 use Rattle.std.specs.Option.{option_map}
 use Rattle.std.specs.Ordering.{nat_cmp, is_eq}
+use Rattle.eris_base.proofs.Orders.{nat_tie}
 use Rattle.eris_txn.specs.declared.packet.Packet.{Packet}
-use Rattle.eris_log.specs.Laws.Places.{nat_tie}
 use Rattle.eris_log.proofs.Walks.{head_at-empty, head_at-first}
 use Rattle.eris_log.proofs.walk.first_packet.Goals as goal
 

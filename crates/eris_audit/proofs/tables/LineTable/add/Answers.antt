@@ -1,9 +1,10 @@
 use Rattle.std.proofs.Common.{◌≡◌, None, [], ◌∷◌, ◌++◌, ap, ◌∙◌}
 use Rattle.eris_base.specs.contracts.ids.TxnIdPartialEq.TheImpl as derived
+use Rattle.eris_base.proofs.Booleans.{none_from}
 use Rattle.indexmap.proofs.CallerLemmas.{insert_entry-new}
 use Rattle.eris_audit.specs.Lines.{has_line, outcome_in}
 use Rattle.eris_audit.specs.Tables.{lines_from}
-use Rattle.eris_audit.proofs.TableLines.{lookup-outcome, is_some-outcome, lines_from-append, none_from}
+use Rattle.eris_audit.proofs.TableLines.{lookup-outcome, is_some-outcome, lines_from-append}
 use Rattle.eris_audit.proofs.tables.LineTable.add.Goals as goal
 
 pub returns : goal.returns
