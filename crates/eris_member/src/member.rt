@@ -233,11 +233,7 @@ impl EpochMember {
     #[tactic(auto, using(crate::proofs::Kept::kept), unfolding(eris_view::specs::ViewTallies::note_part))]
     pub(crate) fn note_part(&mut self, replica: ReplicaId, part: Part) -> Result<(), NoMemory>
         requires { IsOfOwn self.old.epoch self.old.me.shard part }
-        ensures { OnOk result (self.new ≡ record self.old {
-          state = record self.old.state {
-            noted = with_part self.old.state.noted replica part;
-          };
-        }) }
+        ensures { OnOk result (self.new ≡ record self.old { state = record self.old.state { noted = with_part self.old.state.noted replica part } }) }
     {
         self.tally.note(replica, part)
     }
@@ -253,11 +249,7 @@ impl EpochMember {
     /// Joins the noted parts to its own.
     #[tactic(auto, using(crate::proofs::Kept::kept))]
     pub(crate) fn join_noted(&mut self) -> Result<(), NoMemory>
-        ensures { OnOk result (self.new ≡ record self.old {
-          state = record self.old.state {
-            part = union_of self.old.state.noted self.old.state.part;
-          };
-        }) }
+        ensures { OnOk result (self.new ≡ record self.old { state = record self.old.state { part = union_of self.old.state.noted self.old.state.part } }) }
     {
         let mut part = self.part.copy(self.alloc)?;
         self.tally.union(&mut part)?;
@@ -269,11 +261,7 @@ impl EpochMember {
     #[tactic(auto, using(crate::proofs::Kept::kept), unfolding(eris_log::specs::Parts::merge))]
     pub(crate) fn merge_part(&mut self, part: &Part) -> Result<(), NoMemory>
         requires { IsOfOwn self.old.epoch self.old.me.shard part.now }
-        ensures { OnOk result (self.new ≡ record self.old {
-          state = record self.old.state {
-            part = merge self.old.state.part part.now;
-          };
-        }) }
+        ensures { OnOk result (self.new ≡ record self.old { state = record self.old.state { part = merge self.old.state.part part.now } }) }
     {
         self.part.merge(part)
     }
@@ -282,11 +270,7 @@ impl EpochMember {
     #[tactic(auto, unfolding(eris_view::specs::AckTallies::note_length))]
     pub(crate) fn note_ack(&mut self, replica: ReplicaId, length: u32)
         requires { replica.0 < 2 * self.old.me.config.f + 1 }
-        ensures { self.new ≡ record self.old {
-          state = record self.old.state {
-            acks = with_ack self.old.state.acks replica length;
-          };
-        } }
+        ensures { self.new ≡ record self.old { state = record self.old.state { acks = with_ack self.old.state.acks replica length } } }
     {
         self.acks.note(replica, length);
     }
@@ -296,11 +280,7 @@ impl EpochMember {
     pub(crate) fn hold(&mut self, packet: Packet) -> Result<(), NoMemory>
         requires epoch { packet.stamp.epoch ≡ self.old.epoch }
         requires names { IsSome (number_in packet.stamp.places self.old.me.shard) }
-        ensures { OnOk result (self.new ≡ record self.old {
-          state = record self.old.state {
-            part = hold self.old.state.part packet;
-          };
-        }) }
+        ensures { OnOk result (self.new ≡ record self.old { state = record self.old.state { part = hold self.old.state.part packet } }) }
     {
         self.part.hold(packet)
     }
@@ -309,11 +289,7 @@ impl EpochMember {
     #[tactic(auto, unfolding(eris_log::specs::Parts::mark_temp))]
     pub(crate) fn mark_temp(&mut self, place: Place) -> Result<(), NoMemory>
         requires { place.epoch ≡ self.old.epoch }
-        ensures { OnOk result (self.new ≡ record self.old {
-          state = record self.old.state {
-            part = mark_temp self.old.state.part place;
-          };
-        }) }
+        ensures { OnOk result (self.new ≡ record self.old { state = record self.old.state { part = mark_temp self.old.state.part place } }) }
     {
         self.part.mark_temp(place)
     }
@@ -322,11 +298,7 @@ impl EpochMember {
     #[tactic(auto, unfolding(eris_log::specs::Parts::mark_found))]
     pub(crate) fn mark_found(&mut self, stamp: &Stamp) -> Result<(), NoMemory>
         requires { stamp.now.epoch ≡ self.old.epoch }
-        ensures { OnOk result (self.new ≡ record self.old {
-          state = record self.old.state {
-            part = mark_found self.old.state.part stamp.now;
-          };
-        }) }
+        ensures { OnOk result (self.new ≡ record self.old { state = record self.old.state { part = mark_found self.old.state.part stamp.now } }) }
     {
         self.part.mark_found(stamp)
     }
@@ -335,11 +307,7 @@ impl EpochMember {
     #[tactic(auto, unfolding(eris_log::specs::Parts::mark_dropped))]
     pub(crate) fn mark_dropped(&mut self, place: Place) -> Result<(), NoMemory>
         requires { place.epoch ≡ self.old.epoch }
-        ensures { OnOk result (self.new ≡ record self.old {
-          state = record self.old.state {
-            part = mark_dropped self.old.state.part place;
-          };
-        }) }
+        ensures { OnOk result (self.new ≡ record self.old { state = record self.old.state { part = mark_dropped self.old.state.part place } }) }
     {
         self.part.mark_dropped(place)
     }
