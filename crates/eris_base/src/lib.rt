@@ -16,8 +16,6 @@ mod stamp;
 mod standard;
 mod stream;
 mod sure;
-#[cfg(test)]
-mod tests;
 mod transfer;
 
 pub use config::{Config, ConfigFault};

@@ -5,6 +5,3 @@
 mod pending;
 
 pub use pending::{Pending, is_aborted};
-
-#[cfg(test)]
-mod tests;

@@ -29,6 +29,3 @@ pub use packet::Packet;
 pub use plan::{Guard, How, Plan, PlanFault, Setting, Write};
 pub use txn::Txn;
 pub use values::KeyValues;
-
-#[cfg(test)]
-mod tests;
