@@ -1,0 +1,8 @@
+use Rattle.std.proofs.Common.{rules, append_assoc}
+use Rattle.std.proofs.lemmas.Result.{IfOk-equal}
+use Rattle.eris_msg.specs.Messages as m
+use Rattle.eris_msg.proofs.write_messages.put_ask.Goals as goal
+
+pub returns : goal.returns
+unfolding m.ask
+returns c = search (rules, IfOk-equal, append_assoc)

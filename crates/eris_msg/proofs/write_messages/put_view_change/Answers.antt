@@ -1,0 +1,8 @@
+use Rattle.std.proofs.Common.{rules, append_assoc}
+use Rattle.std.proofs.lemmas.Result.{IfOk-equal}
+use Rattle.eris_msg.specs.Messages as m
+use Rattle.eris_msg.proofs.write_messages.put_view_change.Goals as goal
+
+pub returns : goal.returns
+unfolding m.view_change
+returns c = search (rules, IfOk-equal, append_assoc)
