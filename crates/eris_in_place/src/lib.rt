@@ -11,6 +11,3 @@ mod participants;
 mod parts;
 
 pub use in_place::{is_in_place_at_client, is_in_place_at_coordinator, is_in_place_at_replica};
-
-#[cfg(test)]
-mod tests;

@@ -11,6 +11,3 @@ mod waiting;
 
 pub use network::Network;
 pub use send_fault::SendFault;
-
-#[cfg(test)]
-mod tests;

@@ -10,13 +10,16 @@
 //! - `general`: the first client, which waits for a general transaction on a key of shard 0;
 //! - `sequencer`: that of epoch 0, with `replace`.
 //!
-//! Any other line is printed as it is.
+//! The line `copy` prints a copy of a finished transaction as a client keeps it. Any other line is printed as it
+//! is.
 #![tactic(auto)]
 
+mod copying;
 mod handing;
 mod making;
 mod receiving;
 
+use copying::copied;
 use eris_coord::Coordinator;
 use eris_sequencer::Sequencers;
 use handing::hand_all;
@@ -40,6 +43,7 @@ fn told_of(alloc: Global, line: &str) -> anyhow::Result<String> {
         Some(("client", words)) => hand_all(alloc, client(alloc)?, words),
         Some(("general", words)) => hand_all(alloc, general(alloc)?, words),
         Some(("sequencer", words)) => hand_all(alloc, Sequencers::new(alloc, config()?)?, words),
+        None if line == "copy" => copied(alloc),
         _ => Ok(format!(in alloc; "{line}")?),
     }
 }

@@ -4,7 +4,7 @@ use Rattle.std.specs.List.{list_all}
 use Rattle.eris_base.specs.declared.ids.ShardId.{ShardId}
 use Rattle.eris_txn.specs.Bodies.{participants_of}
 use Rattle.eris_sequencer.specs.Stamps.{has_counters}
-use Rattle.eris_stamp_table.proofs.stamping.stamp_alone.Goals as goal
+use Rattle.eris_tally_table.proofs.stamping.stamp_alone.Goals as goal
 
 pub stamp-requires-clause-shards : goal.stamp-requires-clause-shards
 unfolding has_counters
