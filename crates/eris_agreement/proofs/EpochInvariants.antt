@@ -21,7 +21,7 @@ use Rattle.eris_epoch.proofs.Additions.{shard_log-none}
 use Rattle.eris_epoch.proofs.EpochLaws.{each-with_noted}
 use Rattle.eris_msg.specs.declared.message.Message.{Message}
 use Rattle.eris_msg.specs.declared.outgoing.Outgoing.{Outgoing}
-use Rattle.eris_script.specs.declared.event.Event.{Event}
+use Rattle.eris_event.specs.declared.event.Event.{Event}
 use Rattle.eris_rules.specs.declared.replica_input.ReplicaInput.{ReplicaInput}
 use Rattle.eris_rules.specs.Addressees.{replica_count}
 use Rattle.eris_rules.specs.Coordinators.{coord_steps_in, starts, raises_target, left_behind, after_closing, closes}

@@ -35,7 +35,7 @@ use Rattle.eris_rules.specs.Outer.{inner_of, outer_sends, tell_each}
 use Rattle.eris_rules.specs.ReplicaStates.{EpochReplica, EpochOut, ReplicaState, ReplicaOut, begun, fresh}
 use Rattle.eris_rules.specs.Replicas.{still, member, steps_in, steps, asks_start, promises}
 use Rattle.eris_rules.specs.Worlds.{replica_at, with_replica}
-use Rattle.eris_epoch_law.specs.EpochWorlds.{EpochSystem, EpochWorld, member_of, EpochEvent, Delivers, Probes, Suspects, Syncs, Nudges, Idles, packet_sends, after_stamping, asks_stamp, after_replica, replica_steps, replica_takes, after_coordinator, comes_to, arrives, happens}
+use Rattle.eris_epoch_law.specs.EpochWorlds.{EpochSystem, EpochWorld, member_of, EpochEvent, Delivers, Probes, Suspects, Syncs, Nudges, Idles, packet_sends, after_stamping, asks_stamp, after_replica, replica_steps, replica_takes, after_coordinator, happens}
 use Rattle.eris_epoch_law.specs.Members.{In}
 use Rattle.eris_epoch_law.specs.Reading.{read}
 use Rattle.eris_epoch_law.proofs.Frame.{read-some, written-same}

@@ -11,7 +11,7 @@ use Rattle.eris_base.proofs.Numbers.{last_or}
 use Rattle.eris_txn.specs.declared.packet.Packet.{Packet}
 use Rattle.eris_msg.specs.declared.message.Message.{Message}
 use Rattle.eris_msg.specs.declared.outgoing.Outgoing.{Outgoing}
-use Rattle.eris_script.specs.declared.event.Event.{Event}
+use Rattle.eris_event.specs.declared.event.Event.{Event}
 use Rattle.eris_rules.specs.Coordinators.{coord_steps_in, starts, raises_target, after_closing, closes}
 use Rattle.eris_rules.specs.CoordStates.{CoordOut, begun_epoch}
 use Rattle.eris_rules.specs.Worlds.{first_world}

@@ -3,8 +3,8 @@
 use Rattle.std.proofs.Common.{◌≡◌, ℕ, zero, suc, List, [], ◌∷◌, ◌++◌, length, Option, Some, None, refl, sym, ap, ◌∙◌}
 use Rattle.std.specs.Prelude.{slice_get}
 use Rattle.eris_base.specs.ConfigLimits.{ConfigValue}
-use Rattle.eris_script.specs.declared.event.Event.{Event}
-use Rattle.eris_rules.specs.declared.refusal.Refusal.{Refusal}
+use Rattle.eris_event.specs.declared.event.Event.{Event}
+use Rattle.eris_event.specs.declared.refusal.Refusal.{Refusal}
 use Rattle.eris_rules.specs.Happenings.{happens}
 use Rattle.eris_rules.specs.Refusals.{refusal}
 use Rattle.eris_rules.specs.Runs.{taken_by, world_after, run_from, run}

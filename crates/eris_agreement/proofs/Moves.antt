@@ -18,7 +18,7 @@ use Rattle.eris_txn.specs.Bodies.{participants_of}
 use Rattle.eris_txn.specs.PlanValues.{PlanValue}
 use Rattle.eris_msg.specs.declared.message.Message.{Message}
 use Rattle.eris_msg.specs.declared.outgoing.Outgoing.{Outgoing}
-use Rattle.eris_script.specs.declared.event.Event.{Event}
+use Rattle.eris_event.specs.declared.event.Event.{Event}
 use Rattle.eris_sequencer.specs.declared.stamping.Stamping.{Stamping}
 use Rattle.eris_sequencer.specs.Asks.{sends_of, sends_stamped, stamp_message, asked_by, ask}
 use Rattle.eris_sequencer.specs.Sequencers.{newest_of, replace, is_in_place, stamp_at, no_stamp, stamp_by, stamp, Stamped}

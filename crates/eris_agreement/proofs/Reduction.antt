@@ -13,8 +13,8 @@ use Rattle.eris_base.proofs.Each.{Each-right, Each-weaker}
 use Rattle.eris_base.proofs.Numbers.{last_or}
 use Rattle.eris_epoch.specs.Closing.{shard_log}
 use Rattle.eris_msg.specs.declared.message.Message.{Message}
-use Rattle.eris_msg.proofs.LastItems.{at_end}
-use Rattle.eris_script.specs.declared.event.Event.{Event}
+use Rattle.eris_codec.proofs.LastItems.{at_end}
+use Rattle.eris_event.specs.declared.event.Event.{Event}
 use Rattle.eris_sequencer.specs.declared.stamping.Stamping.{Stamping}
 use Rattle.eris_sequencer.specs.Sequencers.{new_stamping, first_stampings}
 use Rattle.eris_rules.specs.declared.replica_input.ReplicaInput.{ReplicaInput}

@@ -2,7 +2,7 @@
 use Rattle.std.specs.Prelude.{◌≡◌, ℕ, suc, ◌<◌, ◌≤◌, List, length}
 use Rattle.eris_base.specs.declared.ids.Epoch.{Epoch}
 use Rattle.eris_base.specs.ConfigLimits.{ConfigValue}
-use Rattle.eris_script.specs.declared.event.Event.{Event}
+use Rattle.eris_event.specs.declared.event.Event.{Event}
 use Rattle.eris_epoch.specs.Closing.{shard_log}
 use Rattle.eris_epoch_law.specs.EpochWorlds.{EpochSystem, EpochEvent, moment}
 use Rattle.eris_agreement.specs.Alone.{IsAlone, Follows}

@@ -2,7 +2,7 @@
 -- events, be they accepted or not; and what is shown of all moments holds in each accepted run.
 use Rattle.std.specs.Prelude.{ℕ, zero, suc, Option, Some, None, List, slice_get}
 use Rattle.eris_base.specs.ConfigLimits.{ConfigValue}
-use Rattle.eris_script.specs.declared.event.Event.{Event}
+use Rattle.eris_event.specs.declared.event.Event.{Event}
 use Rattle.eris_rules.specs.Happenings.{happens}
 use Rattle.eris_rules.specs.Worlds.{WorldState, first_world}
 

@@ -8,7 +8,7 @@ ghost use Rattle.eris_base.specs.ConfigLimits.{ConfigValue};
 ghost use Rattle.eris_txn.specs.declared.packet.Packet.{Packet};
 ghost use Rattle.eris_epoch.specs.Closing.{shard_log};
 ghost use Rattle.eris_msg.specs.declared.outgoing.Outgoing.{Outgoing};
-ghost use Rattle.eris_script.specs.declared.event.Event.{Event};
+ghost use Rattle.eris_event.specs.declared.event.Event.{Event};
 ghost use Rattle.eris_rules.specs.Runs.{run};
 ghost use Rattle.eris_rules.specs.Happenings.{happens};
 ghost use Rattle.eris_rules.specs.Worlds.{WorldState, client_at, first_world, replica_at, with_event};

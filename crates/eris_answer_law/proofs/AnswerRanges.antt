@@ -42,9 +42,9 @@ use Rattle.eris_locks.specs.Locks.{locks_of}
 use Rattle.eris_locks.specs.LockTable.{Stepped, also, all_also, only, nothing_done, done, answer_of, values_after, execute, release, arrive_new, arrive, aborted_late, end_holding, end_waiting, conclude_first, conclude, step_by, step, run_dones, run_state}
 use Rattle.eris_locks.specs.Shards.{is_on, cut_body, cut, names_shard, on_shard}
 use Rattle.eris_locks.specs.States.{StoreState, empty, same_phase, phase_of, is_prelim, note, decide, is_decided, holds, waits, is_prelim_of, no_longer_waiting, blocked}
-use Rattle.eris_msg.specs.Codecs.{items_fit}
-use Rattle.eris_msg.specs.Fields as f
-use Rattle.eris_msg.proofs.FieldLaws.{at_most, tag_is}
+use Rattle.eris_codec.specs.Codecs.{items_fit}
+use Rattle.eris_codec.specs.Fields as f
+use Rattle.eris_codec.proofs.FieldLaws.{at_most, tag_is}
 use Rattle.eris_rules.specs.InPlace.{names_exactly, names_participants}
 use Rattle.eris_answer_law.specs.Answering.{PacketIsRight, AnswerFits, KeptFits, DoneFits}
 use Rattle.eris_rules.specs.ReplicaAnswers.{is_late_above, late_answers, prompt_answer, answer_after, store_after, store_answers}

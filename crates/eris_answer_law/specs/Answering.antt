@@ -4,7 +4,7 @@ use Rattle.eris_txn.specs.declared.answer.Answer.{Answer}
 use Rattle.eris_txn.specs.declared.packet.Packet.{Packet}
 use Rattle.eris_locks.specs.declared.done.Done.{Done}
 use Rattle.eris_in_place.specs.MessageRanges.{PacketFits}
-use Rattle.eris_msg.specs.Fields as f
+use Rattle.eris_codec.specs.Fields as f
 use Rattle.eris_rules.specs.InPlace.{names_participants}
 
 -- a packet that is in its ranges, and names exactly its participants

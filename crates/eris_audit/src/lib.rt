@@ -1,5 +1,10 @@
 //! What it means that a history of transactions is serial: the serial run over one plain map, the five
 //! rules that hold a history against an order of its transactions, and the audit by them.
+//!
+//! # What its calls ask
+//!
+//! `audit` asks for fewer than 2^32 events and lines, since its verdict names one of them by a
+//! number of 32 bits. The serial store's calls ask that it isn't spent.
 #![tactic(auto)]
 
 mod judge;

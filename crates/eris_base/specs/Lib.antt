@@ -1,11 +1,8 @@
 pub mod ConfigLimits
 pub mod Configs
 pub mod Each
-pub mod Faults
-pub mod MemoryStreams
 pub mod Places
 pub mod Quorums
 pub mod StampPlaces
 pub mod Stamps
-pub mod Transfers
 pub mod TxnIds

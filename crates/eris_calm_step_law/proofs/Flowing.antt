@@ -13,7 +13,7 @@ use Rattle.eris_msg.specs.declared.outgoing.Outgoing.{Outgoing}
 use Rattle.eris_sequencer.specs.declared.stamping.Stamping.{Stamping}
 use Rattle.eris_sequencer.specs.Asks.{ask}
 use Rattle.eris_sequencer.specs.Sequencers.{newest_of}
-use Rattle.eris_script.specs.declared.event.Event.{Event}
+use Rattle.eris_event.specs.declared.event.Event.{Event}
 use Rattle.eris_rules.specs.declared.transaction.Vote.{Vote}
 use Rattle.eris_rules.specs.Happenings.{after_client, after_replica, after_sequencer, arrives, comes_to, delivers, flows, happens, sequencer_takes}
 use Rattle.eris_rules.specs.Worlds.{WorldState, no_longer_waiting, with_sends}

@@ -9,8 +9,8 @@ use Rattle.eris_base.specs.declared.ids.ShardId.{ShardId}
 use Rattle.eris_base.specs.ConfigLimits.{ConfigValue}
 use Rattle.eris_txn.specs.declared.op.Op.{Op}
 use Rattle.eris_msg.specs.declared.outgoing.Outgoing.{Outgoing}
-use Rattle.eris_script.specs.declared.event.Event.{Event}
-use Rattle.eris_rules.specs.declared.refusal.Refusal.{Refusal}
+use Rattle.eris_event.specs.declared.event.Event.{Event}
+use Rattle.eris_event.specs.declared.refusal.Refusal.{Refusal}
 use Rattle.eris_rules.specs.Happenings.{after_client, happens}
 use Rattle.eris_rules.specs.Refusals.{cause, frame_sizes, limit_met, refusal}
 use Rattle.eris_rules.specs.Runs.{taken_by, world_after}

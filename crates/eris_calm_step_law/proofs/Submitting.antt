@@ -20,7 +20,7 @@ use Rattle.eris_txn.specs.Bodies.{participants_of}
 use Rattle.eris_txn.specs.Operations.{key_of}
 use Rattle.eris_txn.proofs.BodyLaws.{shards_of-some}
 use Rattle.eris_msg.specs.declared.outgoing.Outgoing.{Outgoing}
-use Rattle.eris_rules.specs.declared.refusal.Refusal.{Refusal}
+use Rattle.eris_event.specs.declared.refusal.Refusal.{Refusal}
 use Rattle.eris_rules.specs.declared.transaction.Course.TheVariants.{Executing}
 use Rattle.eris_rules.specs.declared.transaction.Transaction.{Transaction}
 use Rattle.eris_rules.specs.Addressees.{replica_count}

@@ -1,7 +1,7 @@
 ghost use Rattle.std.specs.Prelude.{◌≡◌, ◌+◌, ◌-◌, ℕ, true, Some};
 ghost use Rattle.eris_base.specs.declared.ids.ShardId.{ShardId};
 ghost use Rattle.eris_base.specs.ConfigLimits.{ConfigValue};
-ghost use Rattle.eris_script.specs.declared.event.Event.{Event};
+ghost use Rattle.eris_event.specs.declared.event.Event.{Event};
 ghost use Rattle.eris_rules.specs.Runs.{world_after};
 ghost use Rattle.eris_rules.specs.Worlds.{WorldState};
 ghost use Rattle.eris_course_law.specs.Accepted.{IsEventFit};

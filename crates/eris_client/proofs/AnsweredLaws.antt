@@ -1,6 +1,6 @@
 -- A client keeps only answers that its halves can have got, so what a complete first half read has a value for each
 -- key of its plan. Used where answers are noted, and where the second half is made.
-use Rattle.std.proofs.Common.{◌≡◌, ◌<◌, ◌≤◌, ◌==◌, ◌&&◌, ◌||◌, ℕ, zero, suc, Bool, true, false, cond, Option, Some, None, List, [], ◌∷◌, ◌++◌, length, map, slice_get, find, append_assoc, IfSome, refl, ap, sym, subst, ◌∙◌, arith}
+use Rattle.std.proofs.Common.{◌≡◌, ◌<◌, ◌≤◌, ◌==◌, ◌||◌, ℕ, zero, suc, Bool, true, false, cond, Option, Some, None, List, [], ◌∷◌, ◌++◌, length, map, slice_get, find, append_assoc, IfSome, refl, ap, sym, subst, ◌∙◌, arith}
 use Rattle.std.specs.BTreeMap.{is_at, insert_entry}
 use Rattle.std.specs.List.{cons_option, list_all, list_any}
 use Rattle.std.specs.Map.{lookup, remove_entry}
@@ -20,7 +20,6 @@ use Rattle.eris_txn.specs.declared.answer.Answer.{Answer}
 use Rattle.eris_txn.specs.declared.body.Body.{Body}
 use Rattle.eris_txn.specs.declared.body.Body.TheVariants.{Prelim}
 use Rattle.eris_txn.specs.declared.lock.Lock.{Lock}
-use Rattle.eris_txn.specs.Bodies.{has_shard, participants_of}
 use Rattle.eris_txn.specs.PlanValues.{PlanValue}
 use Rattle.eris_txn.specs.Plans.{locks_of}
 use Rattle.eris_general.specs.Outcomes.{is_aborted}
@@ -31,7 +30,6 @@ use Rattle.eris_rules.specs.declared.transaction.Vote.{Vote}
 use Rattle.eris_rules.specs.Assembling.{assemble}
 use Rattle.eris_rules.specs.ClientStates.{begun_half, body_of, txn_id_cmp}
 use Rattle.eris_rules.specs.Clients.{answer_of_shard, answers_counted, item_shards, values_in}
-use Rattle.eris_rules.specs.InPlace.{names_exactly}
 use Rattle.eris_rules.specs.Votes.{agrees_with, answer_by_votes, answer_fits, first_answer, is_complete, is_counted, items_on, late_fits, role_fits, vote_fits, votes_with, with_answer, with_counted, with_late, with_vote}
 use Rattle.eris_client.specs.Answered.{Answers, IsAnswered}
 use Rattle.eris_client.specs.Assembled.{assembled, count_of}

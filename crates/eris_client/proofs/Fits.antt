@@ -35,9 +35,9 @@ use Rattle.eris_txn.specs.Plans.{guards_hold, locks_in, locks_of, mode_of, set_b
 use Rattle.eris_general.specs.Outcomes.{conclusion_of, is_aborted}
 use Rattle.eris_msg.specs.declared.message.Message.{Message}
 use Rattle.eris_msg.specs.declared.outgoing.Outgoing.{Outgoing}
-use Rattle.eris_msg.specs.Codecs.{Codec, items_fit}
-use Rattle.eris_msg.specs.Fields as f
-use Rattle.eris_msg.specs.Spellings.{body_fits}
+use Rattle.eris_codec.specs.Codecs.{Codec, items_fit}
+use Rattle.eris_codec.specs.Fields as f
+use Rattle.eris_codec.specs.Ranges.{body_fits}
 use Rattle.eris_msg.proofs.MessageFits.{ask_fits}
 use Rattle.eris_rules.specs.declared.transaction.Course.{Course}
 use Rattle.eris_rules.specs.declared.transaction.Course.TheVariants.{Executing, Reading, Concluding, Aborting}

@@ -18,10 +18,10 @@ use Rattle.eris_txn.specs.PlanValues.{PlanValue}
 use Rattle.eris_txn.specs.Sizes.{is_few}
 use Rattle.eris_txn.proofs.KeyLaws.{same_key-true}
 use Rattle.eris_txn.proofs.PlanSizes.{length-settings}
-use Rattle.eris_msg.specs.Codecs.{items_fit}
-use Rattle.eris_msg.specs.Fields as f
-use Rattle.eris_msg.specs.Spellings.{body_fits}
-use Rattle.eris_msg.proofs.NameBytes.{name_fits}
+use Rattle.eris_codec.specs.Codecs.{items_fit}
+use Rattle.eris_codec.specs.Fields as f
+use Rattle.eris_codec.specs.Ranges.{body_fits}
+use Rattle.eris_codec.proofs.NameBytes.{name_fits}
 use Rattle.eris_client.specs.ClientRanges.{HowFits, PlanFits, SettingFits}
 use Rattle.eris_client.proofs.Fits.{all_items_fit, count_fits, value_small}
 

@@ -10,8 +10,8 @@ use Rattle.eris_txn.specs.declared.plan.Setting.{Setting}
 use Rattle.eris_txn.specs.declared.txn.Txn.{Txn}
 use Rattle.eris_txn.specs.Operations.{key_of}
 use Rattle.eris_txn.specs.PlanValues.{PlanValue}
-use Rattle.eris_msg.specs.Fields as f
-use Rattle.eris_msg.specs.Spellings.{body_fits}
+use Rattle.eris_codec.specs.Fields as f
+use Rattle.eris_codec.specs.Ranges.{body_fits}
 use Rattle.eris_in_place.specs.MessageRanges.{SendsFit}
 use Rattle.eris_rules.specs.declared.transaction.Course.{Course}
 use Rattle.eris_rules.specs.declared.transaction.Course.TheVariants.{Executing, Reading, Concluding, Aborting}

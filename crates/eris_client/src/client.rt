@@ -2,7 +2,7 @@ ghost use Rattle.std.specs.Prelude.{◌≡◌, ◌<◌, ◌==◌, ◌↔◌, [],
 ghost use Rattle.std.specs.Option.{option_copied};
 ghost use Rattle.eris_txn.specs.declared.history.HistoryEvent.TheVariants as events;
 ghost use Rattle.eris_msg.specs.declared.message.Message.{Message};
-ghost use Rattle.eris_msg.specs.Fields as f;
+ghost use Rattle.eris_codec.specs.Fields as f;
 ghost use Rattle.eris_msg.specs.Spellings.{IsSpelling};
 ghost use Rattle.eris_rules.specs.ClientStates.{first_client, transaction_at};
 ghost use Rattle.eris_rules.specs.Clients.{abort, client_step, own_id, retry, submit};

@@ -3,7 +3,7 @@ ghost use Rattle.std.specs.Prelude.{◌≡◌, map, true, IsTrue};
 ghost use Rattle.eris_base.specs.Each.{Each};
 ghost use Rattle.eris_txn.specs.Operations.{key_of};
 ghost use Rattle.eris_txn.specs.Sizes.{txn_has_size};
-ghost use Rattle.eris_msg.specs.Fields as f;
+ghost use Rattle.eris_codec.specs.Fields as f;
 ghost use Rattle.eris_rules.specs.Known.{knows_keys, knows_shard};
 ghost use Rattle.eris_client.specs.ClientRanges.{HowFits, PlanFits, TxnFits, keys_in};
 
@@ -104,7 +104,7 @@ fn read_numbers(settings: &[Setting])
     }
 }
 
-#[tactic(auto, unfolding(eris_msg::specs::Fields::value))]
+#[tactic(auto, unfolding(eris_codec::specs::Fields::value))]
 fn read_number(how: &How)
     ensures { HowFits how.now }
 {

@@ -1,12 +1,13 @@
 -- What a written answer says of the bytes read and written. Used where the text that is due was written.
 use Rattle.std.proofs.Common.{◌≡◌, inl, inr, ℕ, ◌≤◌, Option, List, length, ap, subst, refl, arith}
 use Rattle.std.specs.Io.KnownBytes.{Appends}
-use Rattle.eris_base.specs.Transfers.{ReadsToEnd}
+use Rattle.eris_stream.specs.Transfers.{ReadsToEnd}
 use Rattle.eris_drill_run.specs.Days.{MeetsLimit, SummarizesDay}
-use Rattle.eris_run.specs.declared.due.Due.{Due}
-use Rattle.eris_run.specs.declared.status.Status.{Status}
-use Rattle.eris_run.specs.declared.status.Status.TheVariants.{Done, CheckedNo, Usage, BadScript, ReadFault, WriteFault, NoMemory, TooLarge}
-use Rattle.eris_run.specs.Calls.{IfBadScript, IfTooLarge, RefusesLarge, RefusesLine, input_limit}
+use Rattle.eris_status.specs.declared.due.Due.{Due}
+use Rattle.eris_status.specs.declared.status.Status.{Status}
+use Rattle.eris_status.specs.declared.status.Status.TheVariants.{Done, CheckedNo, Usage, BadScript, ReadFault, WriteFault, NoMemory, TooLarge}
+use Rattle.eris_status.specs.Statuses.{IfBadScript, IfTooLarge}
+use Rattle.eris_run.specs.Calls.{RefusesLarge, RefusesLine, input_limit}
 use Rattle.eris_cmd.specs.declared.command.Command.{Command}
 use Rattle.eris_cmd.specs.declared.command.Command.TheVariants.{Run, Drill}
 use Rattle.eris_cmd.specs.Commands.{IsDrill, IsRun}

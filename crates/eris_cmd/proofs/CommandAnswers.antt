@@ -2,8 +2,9 @@
 use Rattle.std.proofs.Common.{◌≡◌, ℕ, IfOk, Result, Ok, Err, List, refl, subst}
 use Rattle.eris_drill.specs.DrillText.{drill_text}
 use Rattle.eris_drill_run.specs.Days.{IsAcceptedDrill, IsDueDay, IsTextFor, MeetsLimit, SummarizesDay}
-use Rattle.eris_run.specs.declared.due.Due.{Due}
-use Rattle.eris_run.specs.Calls.{IfTooLarge, status_for}
+use Rattle.eris_status.specs.declared.due.Due.{Due}
+use Rattle.eris_status.specs.Statuses.{IfTooLarge}
+use Rattle.eris_run.specs.Calls.{status_for}
 use Rattle.eris_run.specs.ScriptRuns.{outcome}
 use Rattle.eris_cmd.specs.declared.command.Command.TheVariants.{Run, Drill}
 use Rattle.eris_cmd.specs.Answers.{IsAnswer, IsGoodDue}

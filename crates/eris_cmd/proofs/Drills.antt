@@ -1,12 +1,12 @@
 -- The words of a drill, read and told apart. Used where the words of the command line are read.
 use Rattle.std.proofs.Common.{◌≡◌, inl, inr, ◌≤◌, ℕ, Bool, IsTrue, bytes_eq, IfSome, Option, Some, None, List, [], ◌∷◌, codes, length, get_or, map, ap, sym, ◌∙◌, arith, lit<, subst}
 use Rattle.std.proofs.lemmas.Slice.Eq.{bytes_eq-Decides}
-use Rattle.eris_script.specs.Decimal.{read_decimal}
-use Rattle.eris_script.proofs.DecimalLaws.{read_decimal-decimal, read_decimal_only}
-use Rattle.eris_script.specs.declared.reason.Reason.{Reason}
-use Rattle.eris_run.specs.declared.status.Status.{Status}
-use Rattle.eris_run.specs.declared.status.Status.TheVariants.{Done, CheckedNo, Usage, BadScript, ReadFault, WriteFault, NoMemory, TooLarge}
-use Rattle.eris_run.specs.Calls.{IfBadScript}
+use Rattle.eris_words.specs.Decimal.{read_decimal}
+use Rattle.eris_words.proofs.DecimalLaws.{read_decimal-decimal, read_decimal_only}
+use Rattle.eris_words.specs.declared.reason.Reason.{Reason}
+use Rattle.eris_status.specs.declared.status.Status.{Status}
+use Rattle.eris_status.specs.declared.status.Status.TheVariants.{Done, CheckedNo, Usage, BadScript, ReadFault, WriteFault, NoMemory, TooLarge}
+use Rattle.eris_status.specs.Statuses.{IfBadScript}
 use Rattle.eris_cmd.specs.Commands.{IsDrill, IsKnown, IsNumberWord, IsRun}
 
 pub reads : (word : List ℕ) (number : ℕ) → read_decimal 500 word ≡ Some number → 1 ≤ number → IsNumberWord word number

@@ -1,6 +1,6 @@
 -- The headline of a run that was reported: the laws of every run, and of undisturbed scripts, speak of its world.
 use Rattle.std.proofs.Common.{ℕ, IfOk, Result, Ok, Err, List}
-use Rattle.eris_run.specs.declared.due.Due.{Due}
+use Rattle.eris_status.specs.declared.due.Due.{Due}
 use Rattle.eris_run.specs.Calls.{ReportsRun}
 use Rattle.eris_run.specs.Dues.{IsDue}
 use Rattle.eris_cmd.specs.Answers.{IsGoodDue}

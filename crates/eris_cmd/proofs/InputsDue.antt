@@ -1,13 +1,13 @@
 -- What came of a source, and what is due for it. Used where the input of a command is read.
 use Rattle.std.proofs.Common.{◌≡◌, inl, ℕ, ◌<◌, IfSome, Option, Some, None, List, length, ap, sym, ◌∙◌, subst, refl, arith, true, nat_lt, cond, Bool}
 use Rattle.std.proofs.lemmas.Bool.Decides.{nat_tests}
-use Rattle.eris_base.specs.Transfers.{ReadsPast, ReadsToEnd}
-use Rattle.eris_run.specs.declared.due.Due.{Due}
-use Rattle.eris_run.specs.declared.status.Status.{Status}
-use Rattle.eris_run.specs.declared.status.Status.TheVariants.{TooLarge}
+use Rattle.eris_stream.specs.Transfers.{ReadsPast, ReadsToEnd}
+use Rattle.eris_status.specs.declared.due.Due.{Due}
+use Rattle.eris_status.specs.declared.status.Status.{Status}
+use Rattle.eris_status.specs.declared.status.Status.TheVariants.{TooLarge}
 use Rattle.eris_run.specs.Calls.{IsAccepted, input_limit, status_due, status_for}
 use Rattle.eris_run.specs.ScriptRuns.{outcome}
-use Rattle.eris_run.specs.Texts.{too_large_text}
+use Rattle.eris_status.specs.Texts.{too_large_text}
 use Rattle.eris_run.proofs.Answering.{input_due}
 use Rattle.eris_run.proofs.Completeness.{done_due}
 use Rattle.eris_cmd.specs.declared.command.Command.{Command}

@@ -2,9 +2,10 @@
 use Rattle.std.specs.Prelude.{◌≡◌, ℕ, List}
 use Rattle.eris_drill.specs.DrillText.{drill_text}
 use Rattle.eris_drill_run.specs.Days.{IsAcceptedDrill, IsTextFor, MeetsLimit, SummarizesDay}
-use Rattle.eris_run.specs.declared.due.Due.{Due}
-use Rattle.eris_run.specs.declared.status.Status.TheVariants.{Done}
-use Rattle.eris_run.specs.Calls.{HasText, IfBadScript, IfTooLarge, IsAccepted, RefusesLarge, RefusesLine, status_due, status_for, text_due}
+use Rattle.eris_status.specs.declared.due.Due.{Due}
+use Rattle.eris_status.specs.declared.status.Status.TheVariants.{Done}
+use Rattle.eris_status.specs.Statuses.{HasText, IfBadScript, IfTooLarge}
+use Rattle.eris_run.specs.Calls.{IsAccepted, RefusesLarge, RefusesLine, status_due, status_for, text_due}
 use Rattle.eris_run.specs.Dues.{IsDue}
 use Rattle.eris_run.specs.ScriptRuns.{outcome}
 use Rattle.eris_cmd.specs.declared.command.Command.{Command}

@@ -1,6 +1,6 @@
 -- THE WORDS that the top call knows: `run` alone, and `drill N` with N from 1 to 500 in decimal digits, without a leading zero.
 use Rattle.std.specs.Prelude.{◌≡◌, ◌⊎◌, ◌≤◌, ℕ, List, [], ◌∷◌, codes}
-use Rattle.eris_script.specs.Decimal.{decimal}
+use Rattle.eris_words.specs.Decimal.{decimal}
 
 abbrev pub IsRun : List (List ℕ) → Type 0
 IsRun words = words ≡ codes "run" ∷ []

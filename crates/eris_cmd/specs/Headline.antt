@@ -1,13 +1,14 @@
 -- THE HEADLINE: what is promised of a script that was run, of its bytes and of the text that is due for them.
 use Rattle.std.specs.Prelude.{◌≡◌, ℕ, ◌≤◌, Some, Ok, List, length}
 use Rattle.std.specs.List.{flat_map}
-use Rattle.eris_script.specs.ReportText.{report_text}
-use Rattle.eris_script.specs.Scripts.{Script, events_of, script}
+use Rattle.eris_report.specs.ReportText.{report_text}
+use Rattle.eris_grammar.specs.Scripts.{Script, events_of, script}
 use Rattle.eris_rules.specs.Good.{Good}
 use Rattle.eris_rules.specs.Reports.{report_of}
 use Rattle.eris_rules.specs.Runs.{run}
 use Rattle.eris_rules.specs.Worlds.{WorldState}
-use Rattle.eris_undisturbed_law.specs.Undisturbed.{AreAnswered, BeginsUndisturbed, IsUndisturbedScript}
+use Rattle.eris_undisturbed_law.specs.Undisturbed.{AreAnswered}
+use Rattle.eris_law_script.specs.UndisturbedScripts.{BeginsUndisturbed, IsUndisturbedScript}
 use Rattle.eris_run.specs.Calls.{input_limit}
 
 -- what was submitted in the script's undisturbed first lines is answered in the end

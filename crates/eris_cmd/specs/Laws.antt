@@ -1,11 +1,12 @@
 -- THE LAWS that the headline rests on, of the bytes of a script.
 use Rattle.std.specs.Prelude.{◌≡◌, ℕ, Some, Ok, List}
 use Rattle.std.specs.List.{flat_map}
-use Rattle.eris_script.specs.Scripts.{Script, events_of, script}
+use Rattle.eris_grammar.specs.Scripts.{Script, events_of, script}
 use Rattle.eris_rules.specs.Good.{Good}
 use Rattle.eris_rules.specs.Runs.{run}
 use Rattle.eris_rules.specs.Worlds.{WorldState}
-use Rattle.eris_undisturbed_law.specs.Undisturbed.{AreAnswered, BeginsUndisturbed, IsUndisturbedScript}
+use Rattle.eris_undisturbed_law.specs.Undisturbed.{AreAnswered}
+use Rattle.eris_law_script.specs.UndisturbedScripts.{BeginsUndisturbed, IsUndisturbedScript}
 
 -- the world after a script's events is good
 abbrev pub EveryRunIsGood : Type 0

@@ -2,13 +2,13 @@
 -- returns, and `taken` and `taken'` those that the sink has taken, where they are known.
 use Rattle.std.specs.Prelude.{◌≡◌, ◌⊎◌, ℕ, ◌+◌, ◌≤◌, Option, List, length}
 use Rattle.std.specs.Io.KnownBytes.{Consumes, IsAtEnd, Appends}
-use Rattle.eris_base.specs.Transfers.{ReadsToEnd, ReadsPast, TakesFront}
+use Rattle.eris_stream.specs.Transfers.{ReadsToEnd, ReadsPast, TakesFront}
 use Rattle.eris_drill.specs.DrillText.{drill_text}
 use Rattle.eris_drill_run.specs.Days.{IsTextFor}
-use Rattle.eris_run.specs.declared.due.Due.{Due}
+use Rattle.eris_status.specs.declared.due.Due.{Due}
 use Rattle.eris_run.specs.Calls.{RefusesSends, input_limit, text_due}
 use Rattle.eris_run.specs.ScriptRuns.{outcome}
-use Rattle.eris_run.specs.Texts.{too_large_text}
+use Rattle.eris_status.specs.Texts.{too_large_text}
 use Rattle.eris_cmd.specs.declared.command.Command.{Command}
 use Rattle.eris_cmd.specs.declared.command.Command.TheVariants.{Run}
 use Rattle.eris_cmd.specs.Answers.{IsAnswer}

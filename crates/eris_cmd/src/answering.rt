@@ -4,16 +4,17 @@ ghost use Rattle.eris_cmd.specs.Headline.{ReportsGoodRun};
 ghost use Rattle.eris_cmd.specs.Laws.{EveryRunIsGood, FrontsAnswer, UndisturbedAnswers};
 ghost use Rattle.eris_drill.specs.DrillText.{drill_text};
 ghost use Rattle.eris_drill_run.specs.Days.{IsAcceptedDrill, IsTextFor, MeetsLimit, SummarizesDay};
-ghost use Rattle.eris_run.specs.declared.status.Status.TheVariants as statuses;
-ghost use Rattle.eris_run.specs.Calls.{HasText, IfBadScript, IfTooLarge, IsAccepted, RefusesLarge, RefusesLine, status_due, status_for, text_due};
+ghost use Rattle.eris_status.specs.declared.status.Status.TheVariants as statuses;
+ghost use Rattle.eris_status.specs.Statuses.{HasText, IfBadScript, IfTooLarge};
+ghost use Rattle.eris_run.specs.Calls.{IsAccepted, RefusesLarge, RefusesLine, status_due, status_for, text_due};
 ghost use Rattle.eris_run.specs.ScriptRuns.{outcome};
 
 use crate::command::Command;
 use eris_base::NoMemory;
 use eris_drill_run::drill_due;
-use eris_good_law::every_run_is_good;
-use eris_run::{Due, script_due};
-use eris_undisturbed_law::undisturbed_scripts_answer;
+use eris_law_script::{every_script_is_good, undisturbed_scripts_answer};
+use eris_run::script_due;
+use eris_status::Due;
 use std::alloc::Global;
 
 /// The core of the program: the status and the text that are due for a command and the bytes of its input, which
@@ -81,6 +82,6 @@ fn laws()
     ensures answers { UndisturbedAnswers }
     ensures answers_front { FrontsAnswer }
 {
-    every_run_is_good();
+    every_script_is_good();
     undisturbed_scripts_answer();
 }

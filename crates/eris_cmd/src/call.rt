@@ -1,19 +1,18 @@
 ghost use Rattle.std.specs.Prelude.{◌≡◌, ◌≢◌, ◌⊎◌, ◌↔◌, ◌≤◌, ℕ, map, string_bytes, IfSome};
-ghost use Rattle.eris_base.specs.Faults.{Rose};
+ghost use Rattle.eris_stream.specs.Faults.{Rose};
 ghost use Rattle.eris_cmd.specs.Commands.{IsDrill, IsKnown, IsRun};
 ghost use Rattle.eris_cmd.specs.Headline.{ReportsGoodRun};
 ghost use Rattle.eris_cmd.specs.Streams.{Answers, RefusesLargeInput, StopsTelling, StopsWriting, Tells};
 ghost use Rattle.eris_drill.specs.DrillText.{drill_text};
 ghost use Rattle.eris_drill_run.specs.Days.{IsAcceptedDrill, MeetsLimit, SummarizesDay};
-ghost use Rattle.eris_run.specs.Calls.{IfBadScript, IfTooLarge, IsAccepted, RefusesLine, status_due, status_for};
+ghost use Rattle.eris_status.specs.Statuses.{IfBadScript, IfTooLarge};
+ghost use Rattle.eris_run.specs.Calls.{IsAccepted, RefusesLine, status_due, status_for};
 ghost use Rattle.eris_run.specs.ScriptRuns.{outcome};
 
 use crate::command::Command;
-use crate::failure::Failure;
 use crate::reading::due_of;
-use crate::telling::tell;
-use eris_base::{Sink, Source};
-use eris_run::Status;
+use eris_status::{Failure, Status, tell};
+use eris_stream::{Sink, Source};
 use std::alloc::Global;
 
 /// Does what the words ask, and answers how it ended. With `run` alone the source has a script, which is run,

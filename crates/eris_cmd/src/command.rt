@@ -3,7 +3,7 @@ ghost use Rattle.eris_cmd.specs.Commands.{IsDrill, IsKnown, IsNumberWord, IsRun}
 ghost use Rattle.eris_cmd.specs.Named.{Names, input_limit_of};
 
 use eris_run::INPUT_LIMIT;
-use eris_script::read_number;
+use eris_words::read_number;
 use std::marker::Model;
 
 /// What the words of a command line ask for.

@@ -1,14 +1,14 @@
 ghost use Rattle.std.specs.Prelude.{◌≡◌, ◌≤◌, ℕ, Err, Some, IfOk, IfSome};
-ghost use Rattle.eris_base.specs.Faults.{Rose};
+ghost use Rattle.eris_stream.specs.Faults.{Rose};
 ghost use Rattle.eris_cmd.specs.Named.{input_limit_of};
 ghost use Rattle.eris_cmd.specs.Streams.{IsDueFor};
 ghost use Rattle.eris_run.specs.Calls.{status_due};
 
 use crate::answering::answer;
 use crate::command::Command;
-use crate::failure::Failure;
-use eris_base::{ReadEnd, Source, read_all};
-use eris_run::{Due, refuse_input};
+use eris_run::refuse_input;
+use eris_status::{Due, Failure};
+use eris_stream::{ReadEnd, Source, read_all};
 use std::alloc::Global;
 
 /// What is due for the command, whose input is read to its limit; a command that reads nothing leaves the source.

@@ -17,10 +17,11 @@ use Rattle.eris_epoch.specs.declared.noted.NotedPart.{NotedPart}
 use Rattle.eris_epoch.specs.EpochTallies.{with_noted, is_ready}
 use Rattle.eris_msg.specs.declared.message.Message.{Message}
 use Rattle.eris_msg.specs.declared.outgoing.Outgoing.{Outgoing}
-use Rattle.eris_msg.specs.Fields as f
-use Rattle.eris_msg.specs.Spellings.{message_fits, part_fits}
+use Rattle.eris_codec.specs.Fields as f
+use Rattle.eris_msg.specs.Spellings.{message_fits}
+use Rattle.eris_codec.specs.Ranges.{part_fits}
 use Rattle.eris_msg.proofs.MessageFits as m
-use Rattle.eris_msg.proofs.RangeLaws.{part_parts}
+use Rattle.eris_codec.proofs.RangeLaws.{part_parts}
 use Rattle.eris_rules.specs.declared.coord_input.CoordInput.{CoordInput}
 use Rattle.eris_rules.specs.Addressees.{all_replicas, shard_replicas}
 use Rattle.eris_rules.specs.CoordStates.{EpochCoordOut, CoordState, begun_epoch, first_coordinator, nothing_asked, is_frozen}

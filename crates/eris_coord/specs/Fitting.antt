@@ -3,7 +3,7 @@ use Rattle.std.specs.Prelude.{◌≡◌, true, map, ⊤}
 use Rattle.eris_base.specs.Each.{Each}
 use Rattle.eris_epoch.specs.declared.noted.NotedPart.{NotedPart}
 use Rattle.eris_in_place.specs.MessageRanges.{PacketsFit, PlacesFit, SendsFit}
-use Rattle.eris_msg.specs.Fields as f
+use Rattle.eris_codec.specs.Fields as f
 use Rattle.eris_msg.specs.Spellings.{message_fits}
 use Rattle.eris_rules.specs.declared.coord_input.CoordInput.{CoordInput}
 use Rattle.eris_rules.specs.CoordStates.{EpochCoord, CoordState, CoordOut}

@@ -15,9 +15,9 @@ use Rattle.eris_txn.specs.declared.txn.Txn.TheVariants.{Whole, General}
 use Rattle.eris_txn.specs.PlanValues.{PlanValue}
 use Rattle.eris_msg.specs.declared.message.Message.{Message}
 use Rattle.eris_msg.specs.declared.outgoing.Outgoing.{Outgoing}
-use Rattle.eris_script.specs.declared.event.Event.{Event}
-use Rattle.eris_rules.specs.declared.refusal.Refusal.{Refusal}
-use Rattle.eris_rules.specs.declared.refusal.Refusal.TheVariants.{NoSuchClient, OwnTxn}
+use Rattle.eris_event.specs.declared.event.Event.{Event}
+use Rattle.eris_event.specs.declared.refusal.Refusal.{Refusal}
+use Rattle.eris_event.specs.declared.refusal.Refusal.TheVariants.{NoSuchClient, OwnTxn}
 use Rattle.eris_rules.specs.Happenings.{happens, plan_of_transaction, submitted_at}
 use Rattle.eris_rules.specs.InPlace.{is_in_place_at_client}
 use Rattle.eris_rules.specs.Known.{knows_client}

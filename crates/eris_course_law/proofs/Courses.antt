@@ -19,7 +19,7 @@ use Rattle.eris_txn.specs.declared.txn.Txn.{Txn}
 use Rattle.eris_audit.specs.Histories.{first_submit}
 use Rattle.eris_msg.specs.declared.message.Message.{Message}
 use Rattle.eris_msg.specs.declared.outgoing.Outgoing.{Outgoing}
-use Rattle.eris_script.specs.declared.event.Event.{Event}
+use Rattle.eris_event.specs.declared.event.Event.{Event}
 use Rattle.eris_rules.specs.Clients.{client_step, idle}
 use Rattle.eris_rules.specs.ClientStates.{ClientIdentity, ClientOut, ClientState, first_client}
 use Rattle.eris_rules.specs.InPlace.{is_in_place_at_client}

@@ -5,7 +5,7 @@ use Rattle.std.specs.Prelude.{slice_get}
 use Rattle.eris_base.specs.declared.ids.ClientId.{ClientId}
 use Rattle.eris_base.specs.ConfigLimits.{ConfigValue}
 use Rattle.eris_msg.specs.declared.message.Message.{Message}
-use Rattle.eris_script.specs.declared.event.Event.{Event}
+use Rattle.eris_event.specs.declared.event.Event.{Event}
 use Rattle.eris_rules.specs.InPlace.{is_in_place_at_client}
 use Rattle.eris_agreement.specs.WorldMoments.{world_at}
 use Rattle.eris_agreement.proofs.Growth.{sent_kept}

@@ -4,7 +4,7 @@ use Rattle.eris_base.specs.declared.ids.ClientId.{ClientId}
 use Rattle.eris_base.specs.ConfigLimits.{ConfigValue}
 use Rattle.eris_base.specs.Each.{Each}
 use Rattle.eris_txn.specs.declared.txn.Txn.TheVariants.{Whole, General}
-use Rattle.eris_script.specs.declared.event.Event.{Event}
+use Rattle.eris_event.specs.declared.event.Event.{Event}
 use Rattle.eris_rules.specs.ClientStates.{first_client}
 use Rattle.eris_rules.specs.Refusals.{cause}
 use Rattle.eris_rules.specs.Worlds.{client_at, first_world}

@@ -9,7 +9,7 @@ use Rattle.eris_txn.specs.declared.body.Body.{Body}
 use Rattle.eris_txn.specs.declared.history.HistoryEvent.{HistoryEvent}
 use Rattle.eris_msg.specs.declared.message.Message.{Message}
 use Rattle.eris_msg.specs.declared.outgoing.Outgoing.{Outgoing}
-use Rattle.eris_script.specs.declared.event.Event.{Event}
+use Rattle.eris_event.specs.declared.event.Event.{Event}
 use Rattle.eris_serial.specs.Evidence.{IsIn}
 use Rattle.eris_epoch_law.specs.Members.{In}
 use Rattle.eris_client_law.specs.ClientRuns.{history_to}

@@ -9,7 +9,7 @@ ghost use Rattle.eris_txn.specs.declared.history.HistoryEvent.{HistoryEvent};
 ghost use Rattle.eris_txn.specs.declared.txn.Txn.{Txn};
 ghost use Rattle.eris_audit.specs.Histories.{first_submit};
 ghost use Rattle.eris_msg.specs.declared.message.Message.{Message};
-ghost use Rattle.eris_script.specs.declared.event.Event.{Event};
+ghost use Rattle.eris_event.specs.declared.event.Event.{Event};
 ghost use Rattle.eris_rules.specs.InPlace.{is_in_place_at_client};
 ghost use Rattle.eris_rules.specs.Runs.{run};
 ghost use Rattle.eris_rules.specs.Worlds.{WorldState, client_at};

@@ -1,5 +1,5 @@
 -- The words of a generator, one after another: used by the code that draws the turns, and by the one that prints.
-use Rattle.std.proofs.Common.{◌≡◌, ◌∙◌, ◌+◌, ◌*◌, ℕ, zero, suc, ap, refl, arith, List}
+use Rattle.std.proofs.Common.{◌≡◌, ◌∙◌, ◌+◌, ◌*◌, ℕ, zero, suc, ap, refl, arith}
 use Rattle.std.proofs.lemmas.Grind.{flat_map-append}
 use Rattle.std.proofs.lemmas.List.{append_assoc}
 use Rattle.rand_pcg.specs.Lcg.{Lcg, state_after, next_state, next}

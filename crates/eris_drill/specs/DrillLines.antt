@@ -8,10 +8,10 @@ use Rattle.eris_txn.specs.declared.key.Key.{Key}
 use Rattle.eris_txn.specs.declared.op.Op.TheVariants.{Get, Put}
 use Rattle.eris_txn.specs.declared.plan.How.TheVariants.{Plus, Minus}
 use Rattle.eris_txn.specs.PlanValues.{PlanValue}
-use Rattle.eris_script.specs.declared.event.Event.{Event}
-use Rattle.eris_script.specs.declared.event.Event.TheVariants as event
-use Rattle.eris_script.specs.declared.line.Line.{Line}
-use Rattle.eris_script.specs.declared.line.Line.TheVariants.{One, Flow, Lose}
+use Rattle.eris_event.specs.declared.event.Event.{Event}
+use Rattle.eris_event.specs.declared.event.Event.TheVariants as event
+use Rattle.eris_grammar.specs.declared.line.Line.{Line}
+use Rattle.eris_grammar.specs.declared.line.Line.TheVariants.{One, Flow, Lose}
 use Rattle.eris_drill.specs.declared.turn.Turn.{Turn}
 use Rattle.eris_drill.specs.Draws.{turn_at}
 

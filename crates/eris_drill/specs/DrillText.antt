@@ -1,10 +1,10 @@
 -- How a drill is written: as a script of version 1.
 use Rattle.std.specs.Prelude.{ℕ, List, [], ◌∷◌, ◌++◌, codes}
 use Rattle.std.specs.List.{flat_map}
-use Rattle.eris_script.specs.declared.line.Line.{Line}
-use Rattle.eris_script.specs.declared.line.Line.TheVariants.{Skip, One, Flow, Lose}
-use Rattle.eris_script.specs.Decimal.{decimal}
-use Rattle.eris_script.specs.EventText.{event_text}
+use Rattle.eris_grammar.specs.declared.line.Line.{Line}
+use Rattle.eris_grammar.specs.declared.line.Line.TheVariants.{Skip, One, Flow, Lose}
+use Rattle.eris_words.specs.Decimal.{decimal}
+use Rattle.eris_grammar.specs.EventText.{event_text}
 use Rattle.eris_drill.specs.DrillLines.{drill_lines}
 
 -- a line without the LF that ends it

@@ -13,9 +13,9 @@ use Rattle.eris_audit.specs.declared.order_line.OrderLine.{OrderLine}
 use Rattle.eris_audit.specs.declared.outcome.Outcome.TheVariants.{Done, Committed, Aborted, Pending}
 use Rattle.eris_audit.specs.Histories.{txn_of}
 use Rattle.eris_audit.specs.SerialRun.{left_by_step}
-use Rattle.eris_script.specs.declared.report.Report.{Report}
-use Rattle.eris_script.specs.Decimal.{decimal}
-use Rattle.eris_script.specs.Words.{line}
+use Rattle.eris_event.specs.declared.report.Report.{Report}
+use Rattle.eris_words.specs.Decimal.{decimal}
+use Rattle.eris_words.specs.Words.{line}
 
 -- WHAT IS COUNTED
 

@@ -3,7 +3,7 @@ ghost use Rattle.eris_drill.specs.DrillLines.{account, asked, opening_put, payee
 
 use crate::turn::Turn;
 use eris_base::{ClientId, NoMemory, Row, ShardId};
-use eris_script::Event;
+use eris_event::Event;
 use eris_txn::{Guard, How, Key, Name, Op, Plan, Setting};
 use std::alloc::Global;
 

@@ -7,7 +7,8 @@ use crate::accounts::{asked, opening_put, teller};
 use crate::steps::{put_noon_where, put_retry, put_upkeep, put_upkeep_where, put_weather};
 use crate::turn::{Turn, generator, next_turn};
 use eris_base::{NoMemory, Row};
-use eris_script::{Line, append_decimal, print_event};
+use eris_grammar::{Line, print_event};
+use eris_words::append_decimal;
 use std::alloc::Global;
 
 #[tactic(auto, unfolding(crate::specs::DrillLines::opening))]

@@ -4,7 +4,8 @@ ghost use Rattle.eris_drill.specs.DrillLines.{noon, retry_lines, upkeep, weather
 use crate::accounts::teller;
 use crate::turn::Turn;
 use eris_base::{NoMemory, ReplicaId, Row, ShardId};
-use eris_script::{Event, Line};
+use eris_event::Event;
+use eris_grammar::Line;
 
 // Each function here adds lines of one kind to a script.
 

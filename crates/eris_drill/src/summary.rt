@@ -1,12 +1,13 @@
 ghost use Rattle.std.specs.Prelude.{◌≡◌, ◌++◌, IfOk, OnOk, count_by};
 ghost use Rattle.std.specs.List.{flat_map};
-ghost use Rattle.eris_script.specs.Words.{line};
+ghost use Rattle.eris_words.specs.Words.{line};
 ghost use Rattle.eris_drill.specs.Summaries.{count_line, foot_lines, head_lines, history_lines, is_aborted, is_answer, is_committed, is_open, is_submit, order_lines, summary_text};
 
 use eris_audit::{OrderLine, Outcome};
 use eris_base::{NoMemory, Row};
-use eris_script::{Report, append_decimal};
+use eris_event::Report;
 use eris_txn::HistoryEvent;
+use eris_words::append_decimal;
 use std::alloc::Global;
 
 fn put_count(out: &mut Row<u8>, name: &[u8], count: u64) -> Result<(), NoMemory>

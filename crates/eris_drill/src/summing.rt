@@ -7,7 +7,7 @@ ghost use Rattle.eris_drill.specs.Summaries.{IsTotal, values_left};
 
 use eris_audit::{OrderLine, SerialStore};
 use eris_base::{NoMemory, TxnId};
-use eris_script::Report;
+use eris_event::Report;
 use eris_txn::{HistoryEvent, Txn};
 use std::alloc::Global;
 

@@ -9,10 +9,8 @@ use Rattle.eris_txn.specs.declared.plan.Guard.{Guard}
 use Rattle.eris_txn.specs.declared.plan.PlanFault.{PlanFault}
 use Rattle.eris_txn.specs.declared.plan.Setting.{Setting}
 use Rattle.eris_txn.specs.PlanFaults.{plan_fault}
-use Rattle.eris_script.specs.declared.event.Event.TheVariants as event
-use Rattle.eris_script.specs.Fields.{client, key, number, two_numbers, txn, value}
-use Rattle.eris_script.specs.LineForms.{fits_event}
-use Rattle.eris_script.specs.PlanForms.{is_plan}
+use Rattle.eris_event.specs.declared.event.Event.TheVariants as event
+use Rattle.eris_event.specs.EventRanges.{fits_event, is_plan, fits_value, fits_client, fits_key}
 use Rattle.eris_drill.specs.declared.turn.Turn.{Turn}
 use Rattle.eris_drill.specs.Draws.{turn_at, turn_from}
 use Rattle.eris_drill.specs.DrillLines.{account, asked, opening_put, payee, payer, teller, transfer}
@@ -26,30 +24,29 @@ low_shard number = grind (arith, nat_tests)
 below_256 : (number : ℕ) → nat_le (number % 8) 255 ≡ true
 below_256 number = grind (arith, nat_tests)
 
-pub key_fits : (number : ℕ) → number < 16 → (key 1).fits (account number) ≡ true
-unfolding key account
+pub key_fits : (number : ℕ) → number < 16 → fits_key 1 (account number) ≡ true
+unfolding account
 key_fits number low = and_from _ _ (low_shard number) (account_name number low)
 
 pub put_fits : (number : ℕ) → number < 16 → fits_event 1 (opening_put number) ≡ true
-unfolding opening_put teller client number value
+unfolding opening_put teller
 put_fits number low = and_from _ _ (below_256 number) (and_from _ _ (and_from _ _ (key_fits number low) refl) refl)
 
 behind : (turn : Turn) → (turn.payer + 1 + turn.distance) % 16 < 16
 behind turn = omega arith
 
-payer_key : (turn : Turn) → IsDrawn turn → (key 1).fits (payer turn) ≡ true
+payer_key : (turn : Turn) → IsDrawn turn → fits_key 1 (payer turn) ≡ true
 unfolding payer
 payer_key turn drawn = key_fits turn.payer drawn.payer
 
-payee_key : (turn : Turn) → (key 1).fits (payee turn) ≡ true
+payee_key : (turn : Turn) → fits_key 1 (payee turn) ≡ true
 unfolding payee
 payee_key turn = key_fits ((turn.payer + 1 + turn.distance) % 16) (behind turn)
 
 small : (amount : ℕ) → amount ≤ 100 → nat_le amount (2 ^ 64 - 1) ≡ true
 small amount low = grind (arith, nat_tests)
 
-amount_fits : (turn : Turn) → IsDrawn turn → value.fits turn.amount ≡ true
-unfolding value number
+amount_fits : (turn : Turn) → IsDrawn turn → fits_value turn.amount ≡ true
 amount_fits turn drawn = small turn.amount drawn.amount
 
 none_found : (keys : List Key) (guards : List Guard) (settings : List Setting) → plan_fault keys guards settings ≡ None → is_none (plan_fault keys guards settings) ≡ true
@@ -67,8 +64,7 @@ transfer_fits turn drawn =
     let planned = none_found (transfer turn).keys (transfer turn).guards (transfer turn).settings (transfer_is_plan turn drawn.payer drawn.distance) in
     and_from _ _ (and_from _ _ (and_from _ _ (and_from _ _ (and_from _ _ keys guards) settings) refl) refl) planned
 
-client_fits : (at : ℕ) → client.fits (record { 0 = at % 8 }) ≡ true
-unfolding client number
+client_fits : (at : ℕ) → fits_client (record { 0 = at % 8 }) ≡ true
 client_fits at = below_256 at
 
 pub asked_fits : (at : ℕ) (turn : Turn) → IsDrawn turn → fits_event 1 (asked (teller at) turn) ≡ true
@@ -83,7 +79,7 @@ retry_number : (turn : ℕ) → turn < 500 → nat_le (3 + turn / 8) (2 ^ 32 - 1
 retry_number turn low = grind (arith, nat_tests)
 
 pub retry_fits : (turn : ℕ) → turn < 500 → fits_event 1 (event.Retry (teller turn) (3 + turn / 8)) ≡ true
-unfolding teller txn two_numbers
+unfolding teller
 retry_fits turn low = and_from _ _ (below_256 turn) (retry_number turn low)
 
 word_amount : (word : ℕ) → word % 100 + 1 ≤ 100

@@ -5,20 +5,21 @@ use Rattle.std.proofs.lemmas.Bool.{and_from}
 use Rattle.eris_base.specs.Each.{Each}
 use Rattle.eris_base.proofs.Each.{Each-append}
 use Rattle.eris_txn.specs.declared.op.Op.TheVariants.{Get}
-use Rattle.eris_script.specs.declared.event.Event.{Event}
-use Rattle.eris_script.specs.declared.event.Event.TheVariants as event
-use Rattle.eris_script.specs.declared.line.Line.{Line}
-use Rattle.eris_script.specs.declared.line.Line.TheVariants.{One, Flow, Lose}
-use Rattle.eris_script.specs.declared.reason.Reason.{Reason}
-use Rattle.eris_script.specs.Decimal.{decimal}
-use Rattle.eris_script.specs.Fields.{count, number, replica, two_numbers}
-use Rattle.eris_script.specs.Cuts.{words}
-use Rattle.eris_script.specs.Headers.{header_of}
-use Rattle.eris_script.specs.LineForms.{fits_event, line_saying}
-use Rattle.eris_script.proofs.FieldLaws.{is_count}
-use Rattle.eris_script.proofs.SpellingLaws.{event_back, read_as_spelled}
-use Rattle.eris_script.proofs.SplitLaws.{words_joined}
-use Rattle.eris_script.proofs.FormLaws.{are_plain}
+use Rattle.eris_event.specs.declared.event.Event.{Event}
+use Rattle.eris_event.specs.declared.event.Event.TheVariants as event
+use Rattle.eris_grammar.specs.declared.line.Line.{Line}
+use Rattle.eris_grammar.specs.declared.line.Line.TheVariants.{One, Flow, Lose}
+use Rattle.eris_words.specs.declared.reason.Reason.{Reason}
+use Rattle.eris_words.specs.Decimal.{decimal}
+use Rattle.eris_grammar.specs.Fields.{count, number, replica, two_numbers}
+use Rattle.eris_words.specs.Cuts.{words}
+use Rattle.eris_grammar.specs.Headers.{header_of}
+use Rattle.eris_event.specs.EventRanges.{fits_event, fits_count}
+use Rattle.eris_grammar.specs.LineForms.{line_saying}
+use Rattle.eris_grammar.proofs.FieldLaws.{is_count}
+use Rattle.eris_grammar.proofs.SpellingLaws.{event_back, read_as_spelled}
+use Rattle.eris_words.proofs.SplitLaws.{words_joined}
+use Rattle.eris_words.proofs.FormLaws.{are_plain}
 use Rattle.eris_drill.specs.declared.turn.Turn.{Turn}
 use Rattle.eris_drill.specs.Draws.{turn_at}
 use Rattle.eris_drill.specs.DrillLines.{asked, bank, below, closing, drill_lines, noon, opening, opening_put, payee, payer, retry_lines, settler, teller, transfer, turn_lines, upkeep, weather}
@@ -32,7 +33,7 @@ one_read e fits saying = event_back 1 e fits ∙ ap (λ (said : Line). ok said) 
     ok : Line → Result Line Reason
     ok said = Ok said
 
-count_fits : (times : ℕ) → times < 2 ^ 32 → count.fits times ≡ true
+count_fits : (times : ℕ) → times < 2 ^ 32 → fits_count times ≡ true
 unfolding count number
 count_fits times low = fits times low
   where

@@ -1,10 +1,10 @@
 -- WHAT THE LINES OF A DRILL SAY, as a script of version 1 is read.
 use Rattle.std.specs.Prelude.{◌≡◌, ℕ, Ok, List}
 use Rattle.std.specs.List.{flat_map}
-use Rattle.eris_script.specs.declared.event.Event.{Event}
-use Rattle.eris_script.specs.declared.line.Line.{Line}
-use Rattle.eris_script.specs.LineForms.{line_of}
-use Rattle.eris_script.specs.Scripts.{events_of}
+use Rattle.eris_event.specs.declared.event.Event.{Event}
+use Rattle.eris_grammar.specs.declared.line.Line.{Line}
+use Rattle.eris_grammar.specs.LineForms.{line_of}
+use Rattle.eris_grammar.specs.Scripts.{events_of}
 use Rattle.eris_drill.specs.DrillLines.{drill_lines}
 use Rattle.eris_drill.specs.DrillText.{line_text}
 

@@ -1,14 +1,14 @@
 ghost use Rattle.std.specs.Prelude.{◌≡◌, ◌≤◌, ◌^◌, ◌%◌, ℕ, Ok, List, codes};
 ghost use Rattle.eris_base.specs.declared.ids.TxnId.{TxnId};
 ghost use Rattle.eris_base.specs.Each.{Each};
-ghost use Rattle.eris_txn.specs.Keys.{Values, no_values};
+ghost use Rattle.eris_txn.specs.Keys.{no_values};
 ghost use Rattle.eris_txn.specs.declared.history.HistoryEvent.{HistoryEvent};
 ghost use Rattle.eris_txn.specs.declared.txn.Txn.{Txn};
 ghost use Rattle.eris_audit.specs.declared.order_line.OrderLine.{OrderLine};
 ghost use Rattle.eris_audit.specs.Histories.{txn_of};
 ghost use Rattle.eris_audit.specs.IsSerial.{IsSerial};
 ghost use Rattle.eris_audit.specs.Lines.{lines_of};
-ghost use Rattle.eris_script.specs.Headers.{header_of};
+ghost use Rattle.eris_grammar.specs.Headers.{header_of};
 ghost use Rattle.eris_drill.specs.DrillLines.{bank, drill_lines};
 ghost use Rattle.eris_drill.specs.Summaries.{IsTotal, after_steps};
 ghost use Rattle.eris_drill_law.specs.BankHistories.{IsBankHistory};

@@ -6,23 +6,24 @@ use Rattle.std.specs.Option.{option_or}
 use Rattle.eris_base.specs.Each.{Each}
 use Rattle.eris_base.specs.ConfigLimits.{ConfigValue}
 use Rattle.eris_msg.specs.declared.outgoing.Outgoing.{Outgoing}
-use Rattle.eris_script.specs.declared.event.Event.{Event}
-use Rattle.eris_script.specs.declared.header.Header.{Header}
-use Rattle.eris_script.specs.declared.line.Line.{Line}
-use Rattle.eris_script.specs.declared.reason.Reason.{Reason}
-use Rattle.eris_script.specs.Scripts.{Script, events_of}
-use Rattle.eris_rules.specs.declared.refusal.Refusal.{Refusal}
-use Rattle.eris_rules.specs.declared.refusal.Refusal.TheVariants as refusals
+use Rattle.eris_event.specs.declared.event.Event.{Event}
+use Rattle.eris_grammar.specs.declared.header.Header.{Header}
+use Rattle.eris_grammar.specs.declared.line.Line.{Line}
+use Rattle.eris_words.specs.declared.reason.Reason.{Reason}
+use Rattle.eris_grammar.specs.Scripts.{Script, events_of}
+use Rattle.eris_event.specs.declared.refusal.Refusal.{Refusal}
+use Rattle.eris_event.specs.declared.refusal.Refusal.TheVariants as refusals
 use Rattle.eris_rules.specs.Happenings.{happens}
 use Rattle.eris_rules.specs.Refusals.{cause, frame_sizes, limit_met, refusal}
 use Rattle.eris_rules.specs.Runs.{run}
 use Rattle.eris_rules.specs.Worlds.{WorldState, first_world}
-use Rattle.eris_run.specs.declared.refused.Limit.{Limit}
-use Rattle.eris_run.specs.declared.refused.Limit.TheVariants as limits
-use Rattle.eris_run.specs.declared.refused.Refused.{Refused}
-use Rattle.eris_run.specs.declared.refused.Why.{Why}
-use Rattle.eris_run.specs.declared.refused.Why.TheVariants as whys
-use Rattle.eris_run.specs.ScriptRuns.{Ran, after_event, after_events, after_header, after_line, after_lines, after_read, after_said, after_text, outcome, ran_in, told, unless, why_of}
+use Rattle.eris_event.specs.declared.limit.Limit.{Limit}
+use Rattle.eris_event.specs.declared.limit.Limit.TheVariants as limits
+use Rattle.eris_status.specs.declared.refused.Refused.{Refused}
+use Rattle.eris_status.specs.declared.refused.Why.{Why}
+use Rattle.eris_status.specs.declared.refused.Why.TheVariants as whys
+use Rattle.eris_run.specs.ScriptRuns.{Ran, after_event, after_events, after_header, after_line, after_lines, after_read, after_said, after_text, outcome, ran_in, told, unless}
+use Rattle.eris_status.specs.Stops.{why_of}
 use Rattle.eris_run.proofs.ScriptLaws.{script_taken}
 use Rattle.eris_drill.specs.DrillLines.{bank, drill_lines}
 use Rattle.eris_drill.specs.DrillText.{drill_text, line_text}

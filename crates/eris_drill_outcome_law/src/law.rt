@@ -1,9 +1,9 @@
 ghost use Rattle.std.specs.Prelude.{◌≡◌, ◌≤◌, ℕ, Ok, Err, Some};
 ghost use Rattle.eris_rules.specs.Runs.{run};
 ghost use Rattle.eris_rules.specs.Worlds.{WorldState};
-ghost use Rattle.eris_run.specs.declared.refused.Limit.{Limit};
-ghost use Rattle.eris_run.specs.declared.refused.Refused.{Refused};
-ghost use Rattle.eris_run.specs.declared.refused.Why.TheVariants as why;
+ghost use Rattle.eris_event.specs.declared.limit.Limit.{Limit};
+ghost use Rattle.eris_status.specs.declared.refused.Refused.{Refused};
+ghost use Rattle.eris_status.specs.declared.refused.Why.TheVariants as why;
 ghost use Rattle.eris_run.specs.ScriptRuns.{Ran, outcome};
 ghost use Rattle.eris_drill.specs.DrillLines.{bank};
 ghost use Rattle.eris_drill.specs.DrillText.{drill_text};

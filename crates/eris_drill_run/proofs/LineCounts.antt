@@ -1,6 +1,6 @@
 -- A drill has no more lines than bytes. Used where its lines are counted.
 use Rattle.std.proofs.Common.{◌≤◌, ℕ, List, [], ◌∷◌, ◌++◌, length, length-append, arith, codes, lit≤}
-use Rattle.eris_script.specs.declared.line.Line.{Line}
+use Rattle.eris_grammar.specs.declared.line.Line.{Line}
 use Rattle.eris_drill.specs.DrillLines.{drill_lines}
 use Rattle.eris_drill.specs.DrillText.{drill_text, line_text, lines_text}
 use Rattle.eris_drill_text_law.proofs.DrillSizes.{drill_short}

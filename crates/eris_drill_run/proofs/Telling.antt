@@ -8,17 +8,17 @@ use Rattle.eris_drill.specs.DrillLines.{bank}
 use Rattle.eris_drill.specs.DrillText.{drill_text}
 use Rattle.eris_drill.specs.Summaries.{IsTotal, is_submit, values_left}
 use Rattle.eris_drill_law.specs.Reading.{drill_events}
-use Rattle.eris_run.specs.declared.due.Due.{Due}
-use Rattle.eris_run.specs.declared.refused.Limit.{Limit}
-use Rattle.eris_run.specs.declared.refused.Refused.{Refused}
-use Rattle.eris_run.specs.declared.refused.Why.{Why}
-use Rattle.eris_run.specs.declared.refused.Why.TheVariants as whys
-use Rattle.eris_run.specs.declared.status.Status.{Status}
-use Rattle.eris_run.specs.declared.status.Status.TheVariants.{Done}
-use Rattle.eris_run.specs.Calls.{HasText, IfBadScript, IfTooLarge, status_for, status_of}
-use Rattle.eris_run.specs.Dues.{IsRefusal}
+use Rattle.eris_status.specs.declared.due.Due.{Due}
+use Rattle.eris_event.specs.declared.limit.Limit.{Limit}
+use Rattle.eris_status.specs.declared.refused.Refused.{Refused}
+use Rattle.eris_status.specs.declared.refused.Why.{Why}
+use Rattle.eris_status.specs.declared.refused.Why.TheVariants as whys
+use Rattle.eris_status.specs.declared.status.Status.{Status}
+use Rattle.eris_status.specs.declared.status.Status.TheVariants.{Done}
+use Rattle.eris_status.specs.Statuses.{HasText, IfBadScript, IfTooLarge, status_of, IsRefusal}
+use Rattle.eris_run.specs.Calls.{status_for}
 use Rattle.eris_run.specs.ScriptRuns.{Ran, outcome}
-use Rattle.eris_run.specs.Texts.{refusal_text}
+use Rattle.eris_status.specs.Texts.{refusal_text}
 use Rattle.eris_run.proofs.FirstRefusals.{first_refused}
 use Rattle.eris_drill_run.specs.Days.{IsDueDay, IsSummaryOf, IsTextFor, MeetsLimit, SummarizesDay}
 

@@ -8,16 +8,17 @@ use Rattle.eris_drill.specs.DrillLines.{bank, drill_lines}
 use Rattle.eris_drill.specs.DrillText.{drill_text}
 use Rattle.eris_drill.specs.Summaries.{IsTotal, is_submit, summary_text, values_left}
 use Rattle.eris_drill_law.specs.Reading.{drill_events}
-use Rattle.eris_run.specs.declared.due.Due.{Due}
-use Rattle.eris_run.specs.declared.refused.Limit.{Limit}
-use Rattle.eris_run.specs.declared.refused.Refused.{Refused}
-use Rattle.eris_run.specs.declared.refused.Why.TheVariants as why
-use Rattle.eris_run.specs.declared.status.Status.{Status}
-use Rattle.eris_run.specs.declared.status.Status.TheVariants.{Done, NoMemory}
-use Rattle.eris_run.specs.Calls.{HasText, IfBadScript, IfTooLarge, status_for}
+use Rattle.eris_status.specs.declared.due.Due.{Due}
+use Rattle.eris_event.specs.declared.limit.Limit.{Limit}
+use Rattle.eris_status.specs.declared.refused.Refused.{Refused}
+use Rattle.eris_status.specs.declared.refused.Why.TheVariants as why
+use Rattle.eris_status.specs.declared.status.Status.{Status}
+use Rattle.eris_status.specs.declared.status.Status.TheVariants.{Done, NoMemory}
+use Rattle.eris_status.specs.Statuses.{HasText, IfBadScript, IfTooLarge}
+use Rattle.eris_run.specs.Calls.{status_for}
 use Rattle.eris_run.specs.FirstRefused.{IsFirstRefused}
 use Rattle.eris_run.specs.ScriptRuns.{Ran, outcome}
-use Rattle.eris_run.specs.Texts.{limit_text, refusal_text}
+use Rattle.eris_status.specs.Texts.{limit_text, refusal_text}
 
 -- the lines of a drill's script, its header among them
 abbrev pub line_count : ℕ → ℕ

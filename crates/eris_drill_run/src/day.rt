@@ -8,7 +8,8 @@ use eris_drill::{drill_lines, drill_script, print_summary, total};
 use eris_drill_outcome_law::drills_end;
 use eris_drill_run_law::{drills_are_taken, drills_keep_their_money};
 use eris_drill_text_law::drills_are_scripts;
-use eris_run::{Due, Status, Stop, refuse_line, run_bytes};
+use eris_run::run_bytes;
+use eris_status::{Due, Status, Stop, refuse_line};
 use eris_world::World;
 use std::alloc::Global;
 

@@ -3,9 +3,9 @@ use Rattle.std.proofs.Common.{◌≡◌, ◌<◌, ℕ, zero, suc, None, List, []
 use Rattle.std.proofs.lemmas.Grind.{flat_map-append}
 use Rattle.std.specs.List.{flat_map}
 use Rattle.eris_base.specs.ConfigLimits.{ConfigValue}
-use Rattle.eris_script.specs.declared.event.Event.{Event}
-use Rattle.eris_script.specs.declared.line.Line.{Line}
-use Rattle.eris_script.specs.Scripts.{events_of}
+use Rattle.eris_event.specs.declared.event.Event.{Event}
+use Rattle.eris_grammar.specs.declared.line.Line.{Line}
+use Rattle.eris_grammar.specs.Scripts.{events_of}
 use Rattle.eris_rules.specs.Happenings.{happens}
 use Rattle.eris_rules.specs.Refusals.{cause}
 use Rattle.eris_rules.specs.Worlds.{WorldState}

@@ -7,8 +7,8 @@ use Rattle.std.specs.List.{list_any}
 use Rattle.eris_base.specs.declared.ids.ReplicaId.{ReplicaId}
 use Rattle.eris_base.specs.declared.ids.ShardId.{ShardId}
 use Rattle.eris_txn.specs.declared.key.Key.{Key}
-use Rattle.eris_rules.specs.declared.refusal.Refusal.{Refusal}
-use Rattle.eris_rules.specs.declared.refusal.Refusal.TheVariants.{NoSuchClient, NoSuchShard, NoSuchTxn, NoSuchReplica, Crashed}
+use Rattle.eris_event.specs.declared.refusal.Refusal.{Refusal}
+use Rattle.eris_event.specs.declared.refusal.Refusal.TheVariants.{NoSuchClient, NoSuchShard, NoSuchTxn, NoSuchReplica, Crashed}
 use Rattle.eris_rules.specs.declared.transaction.Transaction.{Transaction}
 use Rattle.eris_rules.specs.ClientStates.{ClientState, transaction_at}
 use Rattle.eris_rules.specs.Happenings.{submitted_at, transaction_of}

@@ -4,17 +4,18 @@ use Rattle.std.proofs.lemmas.Grind.{flat_map-append}
 use Rattle.std.specs.List.{flat_map, list_all}
 use Rattle.eris_base.specs.declared.ids.ShardId.{ShardId}
 use Rattle.eris_base.proofs.Each.{Each-left}
-use Rattle.eris_script.specs.declared.event.Event.{Event}
-use Rattle.eris_script.specs.declared.line.Line.{Line}
-use Rattle.eris_script.specs.declared.line.Line.TheVariants.{One}
-use Rattle.eris_script.specs.Scripts.{events_of}
+use Rattle.eris_event.specs.declared.event.Event.{Event}
+use Rattle.eris_grammar.specs.declared.line.Line.{Line}
+use Rattle.eris_grammar.specs.declared.line.Line.TheVariants.{One}
+use Rattle.eris_grammar.specs.Scripts.{events_of}
 use Rattle.eris_rules.specs.Runs.{run}
 use Rattle.eris_rules.specs.Worlds.{WorldState}
 use Rattle.eris_course_law.specs.Accepted.{AreEventsFit, IsEventFit}
-use Rattle.eris_good_law.proofs.Scripts.{script_fits}
-use Rattle.eris_undisturbed_law.specs.Undisturbed.{AreAnswered, AreUndisturbed, crashes, is_calm_line, packets_for_all}
+use Rattle.eris_law_script.proofs.Fit.{script_fits}
+use Rattle.eris_undisturbed_law.specs.Undisturbed.{AreAnswered, crashes, packets_for_all}
+use Rattle.eris_law_script.specs.UndisturbedScripts.{AreUndisturbed, is_calm_line}
 use Rattle.eris_undisturbed_law.proofs.Answered.{undisturbed_answers}
-use Rattle.eris_undisturbed_law.proofs.Lines.{undisturbed_lines}
+use Rattle.eris_law_script.proofs.Lines.{undisturbed_lines}
 use Rattle.eris_drill.specs.DrillLines.{account, bank, below, closing, drill_lines, opening, opening_put, teller, turn_lines}
 use Rattle.eris_drill.specs.DrillText.{drill_text}
 use Rattle.eris_drill_law.specs.Reading.{drill_events}

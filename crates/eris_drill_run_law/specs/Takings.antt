@@ -1,7 +1,7 @@
 -- EVENTS THAT ARE TAKEN, one after another, but for the limits of what may be sent: these are no cause of theirs.
 use Rattle.std.specs.Prelude.{◌≡◌, None, List, [], ◌∷◌, ⊤}
 use Rattle.eris_base.specs.ConfigLimits.{ConfigValue}
-use Rattle.eris_script.specs.declared.event.Event.{Event}
+use Rattle.eris_event.specs.declared.event.Event.{Event}
 use Rattle.eris_rules.specs.Happenings.{happens}
 use Rattle.eris_rules.specs.Refusals.{cause}
 use Rattle.eris_rules.specs.Worlds.{WorldState}

@@ -5,14 +5,14 @@ use Rattle.std.specs.List.{flat_map, onto_first}
 use Rattle.std.specs.Str.Lines.{strip_carriage_return}
 use Rattle.eris_base.specs.Each.{Each}
 use Rattle.eris_base.proofs.Booleans.{left_of, right_of}
-use Rattle.eris_script.specs.declared.event.Event.{Event}
-use Rattle.eris_script.specs.declared.header.Header.{Header}
-use Rattle.eris_script.specs.declared.line.Line.{Line}
-use Rattle.eris_script.specs.declared.reason.Reason.{Reason}
-use Rattle.eris_script.specs.Cuts.{cut_lines, lines}
-use Rattle.eris_script.specs.Headers.{header_of}
-use Rattle.eris_script.specs.LineForms.{line_of}
-use Rattle.eris_script.specs.Scripts.{BadLine, Script, events_from, events_of, script, script_in, with_config, with_events}
+use Rattle.eris_event.specs.declared.event.Event.{Event}
+use Rattle.eris_grammar.specs.declared.header.Header.{Header}
+use Rattle.eris_grammar.specs.declared.line.Line.{Line}
+use Rattle.eris_words.specs.declared.reason.Reason.{Reason}
+use Rattle.eris_words.specs.Cuts.{cut_lines, lines}
+use Rattle.eris_grammar.specs.Headers.{header_of}
+use Rattle.eris_grammar.specs.LineForms.{line_of}
+use Rattle.eris_grammar.specs.Scripts.{BadLine, Script, events_from, events_of, script, script_in, with_config, with_events}
 use Rattle.eris_drill.specs.DrillLines.{bank, drill_lines}
 use Rattle.eris_drill.specs.DrillText.{drill_text, line_text, lines_text}
 use Rattle.eris_drill_law.specs.Reading.{IsRead, drill_events}

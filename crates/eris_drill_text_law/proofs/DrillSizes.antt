@@ -1,8 +1,8 @@
 -- HOW LONG A DRILL'S SCRIPT IS: its lines are few and short, so it is no longer than a script may be.
 use Rattle.std.proofs.Common.{◌≡◌, ◌≤◌, ◌+◌, ◌*◌, ◌/◌, ◌%◌, ◌==◌, ℕ, zero, suc, Bool, true, false, cond, List, [], ◌∷◌, ◌++◌, length, length-append, refl, arith, codes, lit≤, mul-suc}
 use Rattle.eris_base.specs.Each.{Each}
-use Rattle.eris_script.specs.declared.line.Line.{Line}
-use Rattle.eris_script.specs.declared.line.Line.TheVariants.{One, Flow, Lose}
+use Rattle.eris_grammar.specs.declared.line.Line.{Line}
+use Rattle.eris_grammar.specs.declared.line.Line.TheVariants.{One, Flow, Lose}
 use Rattle.eris_drill.specs.declared.turn.Turn.{Turn}
 use Rattle.eris_drill.specs.Draws.{turn_at}
 use Rattle.eris_drill.specs.DrillLines.{asked, below, closing, drill_lines, noon, opening, opening_put, retry_lines, settler, teller, turn_lines, upkeep, weather}

@@ -8,16 +8,16 @@ use Rattle.eris_base.specs.Each.{Each}
 use Rattle.eris_base.proofs.Each.{Each-append}
 use Rattle.eris_base.proofs.Booleans.{left_of, right_of}
 use Rattle.eris_txn.specs.declared.op.Op.TheVariants.{Get, Put}
-use Rattle.eris_script.specs.declared.event.Event.{Event}
-use Rattle.eris_script.specs.declared.event.Event.TheVariants as event
-use Rattle.eris_script.specs.declared.line.Line.{Line}
-use Rattle.eris_script.specs.declared.line.Line.TheVariants.{One, Flow, Lose}
-use Rattle.eris_script.specs.Decimal.{decimal}
-use Rattle.eris_script.specs.EventText.{event_words}
-use Rattle.eris_script.specs.Words.{key_word, spaced}
-use Rattle.eris_script.proofs.DecimalLaws.{digits_of_decimal}
-use Rattle.eris_script.proofs.LineLemmas.{joined}
-use Rattle.eris_script.proofs.DigitLemmas.{few_digits}
+use Rattle.eris_event.specs.declared.event.Event.{Event}
+use Rattle.eris_event.specs.declared.event.Event.TheVariants as event
+use Rattle.eris_grammar.specs.declared.line.Line.{Line}
+use Rattle.eris_grammar.specs.declared.line.Line.TheVariants.{One, Flow, Lose}
+use Rattle.eris_words.specs.Decimal.{decimal}
+use Rattle.eris_grammar.specs.EventText.{event_words}
+use Rattle.eris_words.specs.Words.{key_word, spaced}
+use Rattle.eris_words.proofs.DecimalLaws.{digits_of_decimal}
+use Rattle.eris_words.proofs.LineLemmas.{joined}
+use Rattle.eris_words.proofs.DigitLemmas.{few_digits}
 use Rattle.eris_drill.specs.declared.turn.Turn.{Turn}
 use Rattle.eris_drill.specs.Draws.{turn_at}
 use Rattle.eris_drill.specs.DrillLines.{account, asked, below, closing, drill_lines, noon, opening, opening_put, payee, payer, retry_lines, settler, teller, transfer, turn_lines, upkeep, weather}

@@ -1,6 +1,6 @@
 ghost use Rattle.std.specs.Prelude.{◌≡◌, ◌≤◌, ◌∷◌, ℕ, Ok, codes, length, map};
-ghost use Rattle.eris_script.specs.Cuts.{lines};
-ghost use Rattle.eris_script.specs.Scripts.{script};
+ghost use Rattle.eris_words.specs.Cuts.{lines};
+ghost use Rattle.eris_grammar.specs.Scripts.{script};
 ghost use Rattle.eris_drill.specs.DrillLines.{bank, drill_lines};
 ghost use Rattle.eris_drill.specs.DrillText.{drill_text, line_text};
 ghost use Rattle.eris_drill_law.specs.Reading.{drill_events};

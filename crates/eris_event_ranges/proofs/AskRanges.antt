@@ -15,11 +15,11 @@ use Rattle.eris_in_place.specs.MessageRanges.{SendsFit}
 use Rattle.eris_msg.specs.declared.message.Message.{Message}
 use Rattle.eris_msg.specs.declared.message.Message.TheVariants as kinds
 use Rattle.eris_msg.specs.declared.outgoing.Outgoing.{Outgoing}
-use Rattle.eris_msg.specs.Fields as f
-use Rattle.eris_msg.specs.Ranges.{PairInRange}
-use Rattle.eris_msg.specs.Spellings.{message_fits, packet_fits, stamp_fits}
+use Rattle.eris_codec.specs.Fields as f
+use Rattle.eris_codec.specs.Ranges.{PairInRange, packet_fits, stamp_fits}
+use Rattle.eris_msg.specs.Spellings.{message_fits}
 use Rattle.eris_msg.proofs.MessageFits.{ask_fits, txn_fits}
-use Rattle.eris_msg.proofs.RangeLaws.{stamp_fits-from}
+use Rattle.eris_codec.proofs.RangeLaws.{stamp_fits-from}
 use Rattle.eris_sequencer.specs.declared.stamping.Stamping.{Stamping}
 use Rattle.eris_sequencer.specs.Asks.{Asked, ask, sends_of, sends_to}
 use Rattle.eris_sequencer.specs.Sequencers.{are_shards_of}

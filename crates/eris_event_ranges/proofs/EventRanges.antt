@@ -18,14 +18,12 @@ use Rattle.eris_txn.specs.declared.txn.Txn.TheVariants as txns
 use Rattle.eris_txn.specs.PlanFaults.{all_locked, plan_fault, repeats, sets_twice}
 use Rattle.eris_txn.specs.PlanValues.{PlanValue}
 use Rattle.eris_txn.proofs.PlanSizes.{length-settings}
-use Rattle.eris_msg.specs.Codecs.{items_fit}
-use Rattle.eris_msg.specs.Fields as f
-use Rattle.eris_msg.proofs.RangeLaws.{count_fits}
-use Rattle.eris_msg.proofs.NameBytes.{name_fits}
+use Rattle.eris_codec.specs.Codecs.{items_fit}
+use Rattle.eris_codec.specs.Fields as f
+use Rattle.eris_codec.proofs.RangeLaws.{count_fits}
+use Rattle.eris_codec.proofs.NameBytes.{name_fits}
 use Rattle.eris_client.specs.ClientRanges.{HowFits, SettingFits, TxnFits}
-use Rattle.eris_script.specs.Fields as w
-use Rattle.eris_script.specs.OpForms.{are_ops, fits_op}
-use Rattle.eris_script.specs.PlanForms.{fits_setting, is_plan, number_of}
+use Rattle.eris_event.specs.EventRanges.{are_ops, fits_op, fits_setting, is_plan, number_of, fits_value, fits_key}
 
 -- ---- keys and values
 shard_limit : (test : Bool) (n : ℕ) → nat_le n (cond test 15 63) ≡ true → n ≤ 63
@@ -36,14 +34,14 @@ pub shard_fits : (shard : ShardId) → shard.0 ≤ 63 → f.shard.fits shard ≡
 unfolding f.shard
 shard_fits shard le = count_fits 0 63 shard.0 (omega arith) (omega arith) le
 
-key_fits : (version : ℕ) (key : Key) → (w.key version).fits key ≡ true → f.key.fits key ≡ true
-unfolding w.key f.key
+key_fits : (version : ℕ) (key : Key) → fits_key version key ≡ true → f.key.fits key ≡ true
+unfolding f.key
 key_fits version key h =
     let parts = and_parts _ _ h in
     and_from _ _ (shard_fits key.shard (shard_limit (version == 1) key.shard.0 parts.0)) (name_fits key.name parts.1)
 
-value_fits : (n : ℕ) → w.value.fits n ≡ true → f.value.fits n ≡ true
-unfolding w.value w.number f.value
+value_fits : (n : ℕ) → fits_value n ≡ true → f.value.fits n ≡ true
+unfolding f.value
 value_fits n h = lt-ltb n (2 ^ 64) (omega (arith, leb-true n (2 ^ 64 - 1) h))
 
 -- ---- operations
@@ -77,13 +75,13 @@ ops_are_in_range version ops h =
     (ops_fit version [] ops parts.1)
 
 -- ---- plans
-keys_fit : (version : ℕ) (before keys : List Key) → list_all (w.key version).fits keys ≡ true → items_fit (λ _. f.key) before keys ≡ true
+keys_fit : (version : ℕ) (before keys : List Key) → list_all (fits_key version) keys ≡ true → items_fit (λ _. f.key) before keys ≡ true
 keys_fit version before [] h = refl
 keys_fit version before (key ∷ keys) h =
     let parts = and_parts _ _ h in
     and_from _ _ (key_fits version key parts.0) (keys_fit version (before ++ key ∷ []) keys parts.1)
 
-how_fits : (how : How) → w.value.fits (number_of how) ≡ true → HowFits how
+how_fits : (how : How) → fits_value (number_of how) ≡ true → HowFits how
 how_fits (hows.Put value) h = value_fits value h
 how_fits (hows.Plus more) h = tt
 how_fits (hows.Minus less) h = tt

@@ -18,7 +18,7 @@ use Rattle.eris_locks.specs.Shards.{on_shard}
 use Rattle.eris_locks.specs.States.{phase_of}
 use Rattle.eris_msg.specs.declared.message.Message.{Message}
 use Rattle.eris_msg.specs.declared.outgoing.Outgoing.{Outgoing}
-use Rattle.eris_script.specs.declared.event.Event.{Event}
+use Rattle.eris_event.specs.declared.event.Event.{Event}
 use Rattle.eris_rules.specs.declared.transaction.Vote.{Vote}
 use Rattle.eris_rules.specs.ClientStates.{ClientIdentity}
 use Rattle.eris_rules.specs.WorldOrders.{order, order_on}

@@ -11,7 +11,7 @@ use Rattle.eris_base.specs.Each.{Each}
 use Rattle.eris_base.proofs.Each.{Each-weaker, Each-any}
 use Rattle.eris_msg.specs.declared.message.Message.{Message}
 use Rattle.eris_msg.specs.declared.outgoing.Outgoing.{Outgoing}
-use Rattle.eris_script.specs.declared.event.Event.{Event}
+use Rattle.eris_event.specs.declared.event.Event.{Event}
 use Rattle.eris_rules.specs.declared.replica_input.ReplicaInput.{ReplicaInput}
 use Rattle.eris_rules.specs.Addressees.{shard_replicas, all_replicas}
 use Rattle.eris_rules.specs.Coordinators.{after_closing, coord_steps_in, start_of, starts, raises_target, starts_shard, starts_all, closes}

@@ -17,7 +17,7 @@ use Rattle.eris_txn.specs.declared.packet.Packet.{Packet}
 use Rattle.eris_locks.specs.Law.{HasPacket}
 use Rattle.eris_locks.specs.Shards.{names_shard, on_shard}
 use Rattle.eris_lock_law.proofs.SaidFrom.{said_from}
-use Rattle.eris_script.specs.declared.event.Event.{Event}
+use Rattle.eris_event.specs.declared.event.Event.{Event}
 use Rattle.eris_sequencer.specs.declared.stamping.Stamping.{Stamping}
 use Rattle.eris_sequencer.specs.Sequencers.{new_stamping}
 use Rattle.eris_rules.specs.WorldOrders.{order, order_on, stamping_list, survives}

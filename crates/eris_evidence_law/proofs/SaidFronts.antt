@@ -22,7 +22,7 @@ use Rattle.eris_log.specs.PartValues.{PartValue}
 use Rattle.eris_locks.specs.Shards.{names_shard}
 use Rattle.eris_locks.specs.States.{phase_of}
 use Rattle.eris_msg.specs.declared.message.Message.{Message}
-use Rattle.eris_script.specs.declared.event.Event.{Event}
+use Rattle.eris_event.specs.declared.event.Event.{Event}
 use Rattle.eris_rules.specs.EpochMessages.{EpochMessage, Responds, Vouch, Reply}
 use Rattle.eris_rules.specs.Good.{BeginsWith, is_kept, kept_at, kept_upto, settled_log}
 use Rattle.eris_rules.specs.Outer.{said_in}

@@ -14,7 +14,7 @@ use Rattle.eris_txn.specs.declared.answer.Answer.{Answer}
 use Rattle.eris_log.specs.Laws.Entries.{NoGap}
 use Rattle.eris_locks.specs.declared.done.Done.{Done}
 use Rattle.eris_msg.specs.declared.message.Message.{Message}
-use Rattle.eris_script.specs.declared.event.Event.{Event}
+use Rattle.eris_event.specs.declared.event.Event.{Event}
 use Rattle.eris_rules.specs.EpochMessages.{Responds, Response, Reply, Late}
 use Rattle.eris_rules.specs.EpochReplicas.{epoch_step}
 use Rattle.eris_rules.specs.ReplicaAnswers.{log_upto, late_answers}

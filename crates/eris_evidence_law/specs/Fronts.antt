@@ -7,7 +7,7 @@ use Rattle.eris_base.specs.declared.ids.TxnId.{TxnId}
 use Rattle.eris_base.specs.ConfigLimits.{ConfigValue}
 use Rattle.eris_txn.specs.declared.answer.Answer.{Answer}
 use Rattle.eris_txn.specs.declared.packet.Packet.{Packet}
-use Rattle.eris_script.specs.declared.event.Event.{Event}
+use Rattle.eris_event.specs.declared.event.Event.{Event}
 use Rattle.eris_rules.specs.Good.{BeginsWith}
 use Rattle.eris_rules.specs.WorldOrders.{order_on}
 use Rattle.eris_serial.specs.Evidence.{SaidOn}

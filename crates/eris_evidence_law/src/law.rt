@@ -1,5 +1,4 @@
 ghost use Rattle.std.specs.Prelude.{◌≡◌, ◌≤◌, ℕ, List, [], ◌∷◌, ◌++◌};
-ghost use Rattle.eris_base.specs.declared.ids.Epoch.{Epoch};
 ghost use Rattle.eris_base.specs.declared.ids.Phase.{Phase};
 ghost use Rattle.eris_base.specs.declared.ids.ReplicaId.{ReplicaId};
 ghost use Rattle.eris_base.specs.declared.ids.ShardId.{ShardId};
@@ -10,7 +9,7 @@ ghost use Rattle.eris_txn.specs.declared.body.Body.{Body};
 ghost use Rattle.eris_txn.specs.declared.packet.Packet.{Packet};
 ghost use Rattle.eris_locks.specs.States.{phase_of};
 ghost use Rattle.eris_msg.specs.declared.message.Message.{Message};
-ghost use Rattle.eris_script.specs.declared.event.Event.{Event};
+ghost use Rattle.eris_event.specs.declared.event.Event.{Event};
 ghost use Rattle.eris_rules.specs.ClientStates.{ClientIdentity};
 ghost use Rattle.eris_rules.specs.Good.{BeginsWith};
 ghost use Rattle.eris_rules.specs.WorldOrders.{order, order_on};

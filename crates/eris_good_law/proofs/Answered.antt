@@ -15,7 +15,7 @@ use Rattle.eris_txn.specs.declared.txn.Txn.{Txn}
 use Rattle.eris_txn.specs.declared.txn.Txn.TheVariants.{Whole, General}
 use Rattle.eris_txn.specs.Operations.{key_of}
 use Rattle.eris_audit.specs.Histories.{first_submit}
-use Rattle.eris_script.specs.declared.event.Event.{Event}
+use Rattle.eris_event.specs.declared.event.Event.{Event}
 use Rattle.eris_rules.specs.ClientStates.{ClientIdentity}
 use Rattle.eris_rules.specs.WorldOrders.{order}
 use Rattle.eris_serial.specs.Evidence.{AnsweredFirst, IsIn, SubmitsWell, SubmittedLater}

@@ -9,7 +9,7 @@ use Rattle.eris_base.specs.Each.{Each}
 use Rattle.eris_txn.specs.declared.answer.Answer.{Answer}
 use Rattle.eris_txn.specs.declared.body.Body.{Body}
 use Rattle.eris_locks.specs.States.{phase_of}
-use Rattle.eris_script.specs.declared.event.Event.{Event}
+use Rattle.eris_event.specs.declared.event.Event.{Event}
 use Rattle.eris_rules.specs.WorldOrders.{order}
 use Rattle.eris_serial.specs.Evidence.{Counted}
 use Rattle.eris_serial.proofs.Runnable.{Each-in, Each-of}

@@ -7,7 +7,7 @@ use Rattle.eris_base.specs.Each.{Each}
 use Rattle.eris_txn.specs.declared.packet.Packet.{Packet}
 use Rattle.eris_audit.specs.Histories.{is_submitted, txn_of}
 use Rattle.eris_locks.specs.Shards.{names_shard}
-use Rattle.eris_script.specs.declared.event.Event.{Event}
+use Rattle.eris_event.specs.declared.event.Event.{Event}
 use Rattle.eris_rules.specs.WorldOrders.{order, stamping_list, survives}
 use Rattle.eris_serial.specs.Evidence.{BodyOrigin, HasCommitOrigin}
 use Rattle.eris_serial.specs.Transactions.{takes_part}

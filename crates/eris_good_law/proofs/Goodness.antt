@@ -1,10 +1,9 @@
 -- EVERY RUN IS GOOD, at each of its moments: where there is evidence the history is serial, and what was settled begins the
 -- order.
-use Rattle.std.proofs.Common.{◌≡◌, ℕ, List, ◌++◌, length, Ok, Some, sym, subst}
+use Rattle.std.proofs.Common.{◌≡◌, ℕ, List, ◌++◌, length, Some, sym, subst}
 use Rattle.eris_base.specs.ConfigLimits.{ConfigValue}
 use Rattle.eris_base.proofs.Each.{Each-left}
-use Rattle.eris_script.specs.declared.event.Event.{Event}
-use Rattle.eris_script.specs.Scripts.{Script, script}
+use Rattle.eris_event.specs.declared.event.Event.{Event}
 use Rattle.eris_rules.specs.Good.{Good}
 use Rattle.eris_rules.specs.Reports.{report_of}
 use Rattle.eris_rules.specs.Runs.{run}
@@ -18,7 +17,6 @@ use Rattle.eris_order_law.proofs.SettledFronts.{settled_right}
 use Rattle.eris_serial_law.proofs.Rules.{serial_order}
 use Rattle.eris_course_law.specs.Accepted.{AreEventsFit, IsAccepted, IsEventFit}
 use Rattle.eris_course_law.proofs.Calls.{accepted}
-use Rattle.eris_good_law.proofs.Scripts.{script_fits}
 use Rattle.eris_good_law.proofs.Evident.{evidence}
 
 -- at every moment
@@ -41,10 +39,6 @@ pub good_front : (config : ConfigValue) (front back : List Event) → AreEventsF
 good_front config front back fit world h =
     let middle = front_accepted config front back world h in
     (middle.0, middle.1, good_run config front (Each-left IsEventFit front back fit) middle.0 middle.1)
-
--- whatever the script: it owes nothing more
-pub good_script : (bytes : List ℕ) (whole : Script) (world : WorldState) → script bytes ≡ Ok whole → run whole.config whole.events ≡ Some world → Good world
-good_script bytes whole world said h = good_run whole.config whole.events (script_fits bytes whole said) world h
 
 -- AND WHAT IS REPORTED of a good world is serial in what is reported of its order
 pub reported_serial : (config : ConfigValue) (world : WorldState) → Good world → IsSerial (report_of config world).history (lines_of (report_of config world).order)

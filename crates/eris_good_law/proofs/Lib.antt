@@ -1,4 +1,4 @@
-pub mod Scripts
+pub mod Ranged
 pub mod Counted
 pub mod Answered
 pub mod Evident

@@ -2,10 +2,8 @@ ghost use Rattle.std.specs.Prelude.{◌≡◌, ℕ, List, ◌++◌, Ok, Some, Is
 ghost use Rattle.eris_base.specs.ConfigLimits.{ConfigValue};
 ghost use Rattle.eris_audit.specs.IsSerial.{IsSerial};
 ghost use Rattle.eris_audit.specs.Lines.{lines_of};
-ghost use Rattle.eris_script.specs.declared.event.Event.{Event};
-ghost use Rattle.eris_script.specs.declared.line.Line.{Line};
-ghost use Rattle.eris_script.specs.LineForms.{fits_event, line_of};
-ghost use Rattle.eris_script.specs.Scripts.{Script, events_of, script};
+ghost use Rattle.eris_event.specs.declared.event.Event.{Event};
+ghost use Rattle.eris_event.specs.EventRanges.{fits_event};
 ghost use Rattle.eris_rules.specs.Good.{Good};
 ghost use Rattle.eris_rules.specs.Reports.{report_of};
 ghost use Rattle.eris_rules.specs.Runs.{run};
@@ -17,13 +15,12 @@ ghost use Rattle.eris_good_law.specs.Evident.{HasEvidence};
 /// THE HEADLINE'S LAW. Take any config and any list of events that the run accepts, in which whatever is submitted can be
 /// run. Then the world is good: what happened at its clients is serial in its order, and what each replica has settled,
 /// be it crashed or not, is how that order begins on its shard. The first events of an accepted list are an accepted
-/// list, so this holds at every moment of the run. The events of a script need no premise; and of a good world what is
+/// list, so this holds at every moment of the run. Of a good world what is
 /// reported to have happened is serial in the order that is reported. The call does nothing; its contract is the law.
 pub fn every_run_is_good()
     ensures good { (config : ConfigValue) (events : List Event) → AreEventsFit events → (world : WorldState) → run config events ≡ Some world → Good world }
     ensures front { (config : ConfigValue) (front back : List Event) → AreEventsFit (front ++ back) → (world : WorldState) → run config (front ++ back) ≡ Some world → (middle : WorldState) × (run config front ≡ Some middle) × Good middle }
     ensures moment { (config : ConfigValue) (events : List Event) → IsAccepted config events → AreEventsFit events → (k : ℕ) → Good (world_at config events k) }
-    ensures script { (bytes : List ℕ) (whole : Script) (world : WorldState) → script bytes ≡ Ok whole → run whole.config whole.events ≡ Some world → Good world }
     ensures reported { (config : ConfigValue) (world : WorldState) → Good world → IsSerial (report_of config world).history (lines_of (report_of config world).order) }
 {}
 
@@ -33,11 +30,7 @@ pub fn runs_have_evidence()
     ensures evidence { (config : ConfigValue) (events : List Event) → IsAccepted config events → AreEventsFit events → (k : ℕ) → HasEvidence config events k }
 {}
 
-/// What is asked of events holds of all that a script says: an event in the grammar's ranges submits what can be run, so
-/// the events of each line that is read are fit, and those of a whole script. The call does nothing; its contract is the
-/// law.
-pub fn scripts_are_fit()
+/// What an event in the ranges of events submits can be run. The call does nothing; its contract is the law.
+pub fn ranged_events_are_fit()
     ensures ranged { (version : ℕ) (event : Event) → IsTrue (fits_event version event) → IsEventFit event }
-    ensures lines { (version : ℕ) (text : List ℕ) (said : Line) → line_of version text ≡ Ok said → AreEventsFit (events_of said) }
-    ensures scripts { (bytes : List ℕ) (whole : Script) → script bytes ≡ Ok whole → AreEventsFit whole.events }
 {}

@@ -4,4 +4,4 @@
 
 mod law;
 
-pub use law::{every_run_is_good, runs_have_evidence, scripts_are_fit};
+pub use law::{every_run_is_good, ranged_events_are_fit, runs_have_evidence};

@@ -14,16 +14,16 @@ use Rattle.eris_log.specs.PartFacts.{AreHeld, AreMarks, IsPart}
 use Rattle.eris_log.specs.PartValues.{PartValue}
 use Rattle.eris_log.specs.Places.{place_cmp, are_of_epoch, pair_of, place_at}
 use Rattle.eris_log.specs.Sorted.{is_above, ascends_from}
-use Rattle.eris_msg.specs.Codecs.{last_of, items_fit}
+use Rattle.eris_codec.specs.Codecs.{last_of, items_fit}
 use Rattle.eris_msg.specs.declared.message.Message.{Message}
-use Rattle.eris_msg.specs.Fields as f
-use Rattle.eris_msg.specs.Parts as p
-use Rattle.eris_msg.specs.Ranges.{PlaceInRange, HeldInRange}
-use Rattle.eris_msg.specs.Spellings.{message_fits, part_fits}
+use Rattle.eris_codec.specs.Fields as f
+use Rattle.eris_codec.specs.Parts as p
+use Rattle.eris_codec.specs.Ranges.{PlaceInRange, HeldInRange, part_fits}
+use Rattle.eris_msg.specs.Spellings.{message_fits}
 use Rattle.eris_msg.proofs.MessageFits as m
-use Rattle.eris_msg.proofs.RangeLaws.{part_parts, part_fits-from, word_fits, mark_items}
-use Rattle.eris_msg.proofs.LastItems.{last_added}
-use Rattle.eris_msg.proofs.PartOrder.{above_in_epoch, above_number}
+use Rattle.eris_codec.proofs.RangeLaws.{part_parts, part_fits-from, word_fits, mark_items}
+use Rattle.eris_codec.proofs.LastItems.{last_added}
+use Rattle.eris_codec.proofs.PartOrder.{above_in_epoch, above_number}
 use Rattle.eris_in_place.specs.MessageRanges.{PacketsFit, PairsFit, PartFits, MessageFits, IsCounted}
 
 -- ---- packets

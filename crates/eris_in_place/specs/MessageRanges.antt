@@ -8,13 +8,13 @@ use Rattle.eris_base.specs.Each.{Each}
 use Rattle.eris_txn.specs.declared.packet.Packet.{Packet}
 use Rattle.eris_log.specs.PartFacts.{IsPart}
 use Rattle.eris_log.specs.PartValues.{PartValue}
-use Rattle.eris_msg.specs.Codecs.{items_fit}
+use Rattle.eris_codec.specs.Codecs.{items_fit}
 use Rattle.eris_msg.specs.declared.message.Message.{Message}
 use Rattle.eris_msg.specs.declared.outgoing.Outgoing.{Outgoing}
-use Rattle.eris_msg.specs.Fields as f
-use Rattle.eris_msg.specs.Parts as p
-use Rattle.eris_msg.specs.Ranges.{PartInRange, PartCounted}
-use Rattle.eris_msg.specs.Spellings.{message_fits, packet_fits}
+use Rattle.eris_codec.specs.Fields as f
+use Rattle.eris_codec.specs.Parts as p
+use Rattle.eris_codec.specs.Ranges.{PartInRange, PartCounted, packet_fits}
+use Rattle.eris_msg.specs.Spellings.{message_fits}
 
 abbrev pub PacketFits : Packet → Type 0
 PacketFits packet = packet_fits packet ≡ true

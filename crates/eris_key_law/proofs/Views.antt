@@ -25,7 +25,6 @@ use Rattle.eris_epoch_law.specs.Fine.{known_in, IsFine, IsFineNote}
 use Rattle.eris_epoch_law.specs.Members.{In}
 use Rattle.eris_key_law.specs.Quorums.{Had, IsBacked}
 use Rattle.eris_epoch_law.specs.Reading.{read, replica_then}
-use Rattle.eris_epoch_law.specs.Stamped.{IsStampingOf}
 use Rattle.eris_epoch_law.proofs.FineParts.{held_fine, fine_merge}
 use Rattle.eris_epoch_law.proofs.FineWorlds.{all_fine}
 use Rattle.eris_epoch_law.proofs.Frame.{IsWritten, read-some, written, first_fresh, replica_equal}

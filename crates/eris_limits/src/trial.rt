@@ -1,5 +1,6 @@
-use eris_base::{MemSink, MemSource, Row, Sink, Source, SureSink, SureSource};
+use eris_base::Row;
 use eris_cmd::eris_call;
+use eris_stream::{MemSink, MemSource, Sink, Source, SureSink, SureSource};
 use std::alloc::{AllocError, Global};
 
 /// How many bytes a read gives, and a write takes, at most.

@@ -1,4 +1,9 @@
 //! A replica within one epoch: its state, and the rows of the rules by which it steps.
+//!
+//! # What its calls ask
+//!
+//! `step` asks for an input of the member's own epoch, from nodes that its config has: the replica
+//! around it hands on no other.
 #![tactic(auto)]
 
 mod input;

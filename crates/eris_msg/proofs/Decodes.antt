@@ -1,15 +1,15 @@
 -- What is decoded was spelled, and what was spelled is decoded.
-use Rattle.std.proofs.Common.{◌≡◌, ℕ, true, List, ◌++◌, length, Result, Ok, Err, refl, sym, ap, subst, ◌∙◌}
+use Rattle.std.proofs.Common.{◌≡◌, ℕ, true, List, ◌++◌, length, Result, Ok, Err, sym, ap, subst, ◌∙◌}
 use Rattle.std.specs.Prelude.{IfOk}
-use Rattle.eris_msg.specs.declared.fault.DecodeFault.{DecodeFault}
+use Rattle.eris_codec.specs.declared.fault.DecodeFault.{DecodeFault}
 use Rattle.eris_msg.specs.declared.message.Message.{Message}
-use Rattle.eris_msg.specs.Answers.{Answers}
-use Rattle.eris_msg.specs.Codecs.{Read, whole}
+use Rattle.eris_codec.specs.Answers.{Answers}
+use Rattle.eris_codec.specs.Codecs.{Read, whole}
 use Rattle.eris_msg.specs.Messages.{message}
 use Rattle.eris_msg.specs.Spellings.{spelling, message_fits, IsSpelling}
-use Rattle.eris_msg.proofs.Laws.{IsBytes, ok_is}
+use Rattle.eris_codec.proofs.Laws.{IsBytes, ok_is}
 use Rattle.eris_msg.proofs.MessageLaws.{is_message}
-use Rattle.eris_msg.proofs.TagLaws.{whole_takes, whole_again}
+use Rattle.eris_codec.proofs.TagLaws.{whole_takes, whole_again}
 
 pub is_found : (bytes : List ℕ) (r : Result Message DecodeFault) → IsBytes bytes → Answers r (length bytes) (whole message bytes) → IfOk r (λ x. IsSpelling x bytes)
 is_found bytes (Ok x) fine e = let t = whole_takes message is_message bytes x fine e in record { fits = t.1; spelled = t.0 }

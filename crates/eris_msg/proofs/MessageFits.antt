@@ -14,9 +14,9 @@ use Rattle.eris_txn.specs.declared.body.Body.{Body}
 use Rattle.eris_txn.specs.declared.packet.Packet.{Packet}
 use Rattle.eris_log.specs.PartValues.{PartValue}
 use Rattle.eris_msg.specs.declared.message.Message.TheVariants as kinds
-use Rattle.eris_msg.specs.Fields as f
+use Rattle.eris_codec.specs.Fields as f
 use Rattle.eris_msg.specs.Messages as m
-use Rattle.eris_msg.specs.Parts as p
+use Rattle.eris_codec.specs.Parts as p
 use Rattle.eris_msg.specs.Spellings.{message_fits}
 
 pub ask_fits : (a : ClientId) (i : TxnId) (b : Body) → message_fits (kinds.Ask a i b) ≡ (f.client.fits a && (f.id.fits i && f.body.fits b))

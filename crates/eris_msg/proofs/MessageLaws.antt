@@ -1,18 +1,18 @@
 -- Messages are read as they are spelled, and nothing else is.
-use Rattle.std.proofs.Common.{◌≡◌, ℕ, ◌==◌, ◌&&◌, Bool, true, List, [], ◌∷◌, Result, Ok, Err, lit<, refl, ap}
+use Rattle.std.proofs.Common.{◌≡◌, ℕ, ◌==◌, true, List, ◌∷◌, Ok, lit<, refl, ap}
 use Rattle.std.proofs.lemmas.Bool.{eqb-true}
 use Rattle.eris_base.proofs.Booleans.{right_of}
 use Rattle.eris_msg.specs.declared.message.Message.{Message}
 use Rattle.eris_msg.specs.declared.message.Message.TheVariants as v
-use Rattle.eris_msg.specs.Codecs.{Codec, tagged}
-use Rattle.eris_msg.specs.Fields as f
+use Rattle.eris_codec.specs.Codecs.{Codec, tagged}
+use Rattle.eris_codec.specs.Fields as f
 use Rattle.eris_msg.specs.Messages as m
-use Rattle.eris_msg.specs.Parts as p
-use Rattle.eris_msg.proofs.BodyLaws.{is_body, is_packet, is_packets, is_answer}
-use Rattle.eris_msg.proofs.FieldLaws.{is_byte, is_word, is_number, byte_single, checked_single, tag_fits, is_shard, is_replica, is_client, is_epoch, is_view, is_phase, is_id, is_place, is_stamp}
-use Rattle.eris_msg.proofs.Laws.{IsBytes, IsCodec, Takes, is_checked, is_pair}
-use Rattle.eris_msg.proofs.PartLaws.{is_places, is_part}
-use Rattle.eris_msg.proofs.TagLaws.{pick, arm_takes, Tags, is_tagged}
+use Rattle.eris_codec.specs.Parts as p
+use Rattle.eris_codec.proofs.BodyLaws.{is_body, is_packet, is_packets, is_answer}
+use Rattle.eris_codec.proofs.FieldLaws.{is_byte, is_word, is_number, byte_single, checked_single, tag_fits, is_shard, is_replica, is_client, is_epoch, is_view, is_phase, is_id, is_place, is_stamp}
+use Rattle.eris_codec.proofs.Laws.{IsBytes, IsCodec, Takes, is_checked, is_pair}
+use Rattle.eris_codec.proofs.PartLaws.{is_places, is_part}
+use Rattle.eris_codec.proofs.TagLaws.{pick, arm_takes, Tags, is_tagged}
 
 is_ask : IsCodec m.ask
 unfolding m.ask

@@ -1,5 +1,5 @@
 -- The messages: a version, a kind, and the kind's fields in order, with nothing between and nothing after.
-use Rattle.std.specs.Prelude.{◌≡◌, ℕ, Bool, true, ◌&&◌, ◌==◌, nat_le, List, ◌∷◌, Result, if◌then◌else◌}
+use Rattle.std.specs.Prelude.{ℕ, Bool, ◌&&◌, ◌==◌, nat_le, List, ◌∷◌, if◌then◌else◌}
 use Rattle.eris_base.specs.declared.ids.ClientId.{ClientId}
 use Rattle.eris_base.specs.declared.ids.Epoch.{Epoch}
 use Rattle.eris_base.specs.declared.ids.Phase.{Phase}
@@ -13,12 +13,12 @@ use Rattle.eris_txn.specs.declared.answer.Answer.{Answer}
 use Rattle.eris_txn.specs.declared.body.Body.{Body}
 use Rattle.eris_txn.specs.declared.packet.Packet.{Packet}
 use Rattle.eris_log.specs.PartValues.{PartValue}
-use Rattle.eris_msg.specs.declared.fault.DecodeReason.TheVariants.{Kind}
+use Rattle.eris_codec.specs.declared.fault.DecodeReason.TheVariants.{Kind}
 use Rattle.eris_msg.specs.declared.message.Message.{Message}
 use Rattle.eris_msg.specs.declared.message.Message.TheVariants as m
-use Rattle.eris_msg.specs.Codecs.{Codec, Read, bad, checked, ◌⊗◌, tagged, arm}
-use Rattle.eris_msg.specs.Fields.{byte, word, number, shard, replica, client, epoch, view, phase, id, place, stamp, body, packet, packets, answer}
-use Rattle.eris_msg.specs.Parts.{places, part}
+use Rattle.eris_codec.specs.Codecs.{Codec, Read, bad, checked, ◌⊗◌, tagged, arm}
+use Rattle.eris_codec.specs.Fields.{byte, word, number, shard, replica, client, epoch, view, phase, id, place, stamp, body, packet, packets, answer}
+use Rattle.eris_codec.specs.Parts.{places, part}
 
 -- ---- the fields of each kind that has more than one
 unfoldable pub ask : Codec (ClientId × (TxnId × Body))

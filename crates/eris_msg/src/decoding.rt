@@ -1,14 +1,13 @@
 ghost use Rattle.std.specs.Prelude.{◌≡◌, length, Ok, IfOk, true};
 ghost use Rattle.eris_msg.specs.declared.message.Message.{Message};
-ghost use Rattle.eris_msg.specs.Answers.{Answers, Gives};
-ghost use Rattle.eris_msg.specs.Codecs.{whole};
+ghost use Rattle.eris_codec.specs.Answers.{Answers, Gives};
+ghost use Rattle.eris_codec.specs.Codecs.{whole};
 ghost use Rattle.eris_msg.specs.Messages.{message};
 ghost use Rattle.eris_msg.specs.Spellings.{message_fits, IsSpelling};
 
-use crate::fault::{DecodeFault, DecodeReason, Stop};
-use crate::input::{Input, bad};
 use crate::message::Message;
 use crate::read_messages::read_message;
+use eris_codec::{DecodeFault, DecodeReason, Input, Stop, bad};
 use std::alloc::Global;
 
 /// The message that the bytes spell. It reserves no more than the bytes that are there allow.

@@ -1,17 +1,14 @@
 ghost use Rattle.std.specs.Prelude.{◌≡◌};
-ghost use Rattle.eris_msg.specs.Answers.{Gives};
-ghost use Rattle.eris_msg.specs.Codecs.{arm};
+ghost use Rattle.eris_codec.specs.Answers.{Gives};
+ghost use Rattle.eris_codec.specs.Codecs.{arm};
 ghost use Rattle.eris_msg.specs.Messages as m;
 
-use crate::fault::{DecodeReason, Stop};
-use crate::input::{Input, bad};
 use crate::message::Message;
-use crate::read_fields::{
-    read_client, read_epoch, read_id, read_number, read_phase, read_place, read_replica,
-    read_shard, read_stamp, read_view,
+use eris_codec::{
+    DecodeReason, Input, Stop, bad, read_answer, read_body, read_client, read_epoch, read_id,
+    read_number, read_packet, read_packets, read_part, read_phase, read_place, read_places,
+    read_replica, read_shard, read_stamp, read_view,
 };
-use crate::read_lists::{read_answer, read_body, read_packet, read_packets};
-use crate::read_parts::{read_part, read_places};
 use std::alloc::Global;
 
 #[tactic(auto, unfolding(crate::specs::Messages::ask))]

@@ -1,18 +1,16 @@
 ghost use Rattle.std.specs.Prelude.{◌≡◌, ◌++◌, true, OnOk};
-ghost use Rattle.eris_msg.specs.Codecs.{◌⊗◌};
-ghost use Rattle.eris_msg.specs.Fields as f;
+ghost use Rattle.eris_codec.specs.Codecs.{◌⊗◌};
+ghost use Rattle.eris_codec.specs.Fields as f;
 ghost use Rattle.eris_msg.specs.Messages as m;
 
 use crate::message::Message;
-use crate::write_fields::{
-    put_client, put_epoch, put_id, put_number, put_phase, put_place, put_replica, put_shard,
-    put_tag, put_view, put_word,
-};
-use crate::write_lists::{
-    put_answer, put_body, put_packet, put_packets, put_part, put_places, put_stamp,
-};
 use eris_base::{
     ClientId, Epoch, NoMemory, Phase, Place, ReplicaId, Row, ShardId, Stamp, TxnId, View,
+};
+use eris_codec::{
+    put_answer, put_body, put_client, put_epoch, put_id, put_number, put_packet, put_packets,
+    put_part, put_phase, put_place, put_places, put_replica, put_shard, put_stamp, put_tag,
+    put_view, put_word,
 };
 use eris_log::Part;
 use eris_txn::{Answer, Body, Packet};

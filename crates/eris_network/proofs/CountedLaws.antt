@@ -13,13 +13,13 @@ use Rattle.eris_in_place.specs.MessageRanges.{MessageFits, IsCounted}
 use Rattle.eris_in_place.proofs.MessageRangeLaws.{counted_message_fits}
 use Rattle.eris_msg.specs.declared.message.Message.{Message}
 use Rattle.eris_msg.specs.declared.message.Message.TheVariants as kinds
-use Rattle.eris_msg.specs.Codecs.{◌⊗◌}
-use Rattle.eris_msg.specs.Fields as f
+use Rattle.eris_codec.specs.Codecs.{◌⊗◌}
+use Rattle.eris_codec.specs.Fields as f
 use Rattle.eris_msg.specs.Messages as m
-use Rattle.eris_msg.specs.Parts as p
-use Rattle.eris_msg.specs.Ranges.{PartCounted}
+use Rattle.eris_codec.specs.Parts as p
+use Rattle.eris_codec.specs.Ranges.{PartCounted}
 use Rattle.eris_msg.specs.Spellings.{message_fits, spelling}
-use Rattle.eris_msg.proofs.Sizes.{pairs_length}
+use Rattle.eris_codec.proofs.Sizes.{pairs_length}
 use Rattle.eris_rules.specs.Refusals.{frame_size}
 use Rattle.eris_network.specs.Counted.{is_short, is_part_counted, is_counted}
 use Rattle.eris_network.specs.Limits.{byte_limit}

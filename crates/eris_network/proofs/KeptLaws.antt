@@ -6,16 +6,16 @@ use Rattle.std.proofs.lemmas.List.Sums.{sum_by-append}
 use Rattle.std.proofs.lemmas.Option.{slice_get-map, slice_get-get_or}
 use Rattle.eris_base.specs.declared.ids.Node.{Node}
 use Rattle.eris_base.specs.Each.{Each}
-use Rattle.eris_msg.specs.declared.fault.DecodeFault.{DecodeFault}
-use Rattle.eris_msg.specs.declared.fault.DecodeFault.TheVariants as faults
-use Rattle.eris_msg.specs.declared.fault.DecodeReason.{DecodeReason}
-use Rattle.eris_msg.specs.declared.fault.Wrong.{Wrong}
+use Rattle.eris_codec.specs.declared.fault.DecodeFault.{DecodeFault}
+use Rattle.eris_codec.specs.declared.fault.DecodeFault.TheVariants as faults
+use Rattle.eris_codec.specs.declared.fault.DecodeReason.{DecodeReason}
+use Rattle.eris_codec.specs.declared.fault.Wrong.{Wrong}
 use Rattle.eris_msg.specs.declared.message.Message.{Message}
 use Rattle.eris_msg.specs.declared.outgoing.Outgoing.{Outgoing}
-use Rattle.eris_msg.specs.Answers.{Answers}
-use Rattle.eris_msg.specs.Codecs.{whole}
-use Rattle.eris_msg.specs.Fields.{word}
-use Rattle.eris_msg.specs.Frames.{frame}
+use Rattle.eris_codec.specs.Answers.{Answers}
+use Rattle.eris_codec.specs.Codecs.{whole}
+use Rattle.eris_codec.specs.Fields.{word}
+use Rattle.eris_frame.specs.Frames.{frame}
 use Rattle.eris_msg.specs.Messages.{message}
 use Rattle.eris_msg.specs.Spellings.{spelling, message_fits, IsSpelling}
 use Rattle.eris_msg.proofs.Decodes.{is_only}

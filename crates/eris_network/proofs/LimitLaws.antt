@@ -2,7 +2,7 @@
 use Rattle.std.proofs.Common.{◌≡◌, ◌<◌, ◌≤◌, List, length, Some, None, refl}
 use Rattle.std.proofs.lemmas.Bool.{lt-ltb, le-ltb}
 use Rattle.eris_msg.specs.declared.outgoing.Outgoing.{Outgoing}
-use Rattle.eris_rules.specs.declared.refusal.Refusal.TheVariants as refusals
+use Rattle.eris_event.specs.declared.refusal.Refusal.TheVariants as refusals
 use Rattle.eris_rules.specs.Refusals.{frame_sizes, limit_met}
 use Rattle.eris_network.specs.declared.send_fault.SendFault.{SendFault}
 use Rattle.eris_network.specs.declared.send_fault.SendFault.TheVariants as faults

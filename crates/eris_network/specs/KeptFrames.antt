@@ -2,11 +2,11 @@
 use Rattle.std.specs.Prelude.{◌≡◌, ◌≤◌, ℕ, true, Option, Some, None, List, map, drop, length, Result, Ok, Err}
 use Rattle.eris_base.specs.declared.ids.Node.{Node}
 use Rattle.eris_base.specs.Each.{Each}
-use Rattle.eris_msg.specs.declared.fault.Wrong.{Wrong}
+use Rattle.eris_codec.specs.declared.fault.Wrong.{Wrong}
 use Rattle.eris_msg.specs.declared.message.Message.{Message}
 use Rattle.eris_msg.specs.declared.outgoing.Outgoing.{Outgoing}
-use Rattle.eris_msg.specs.Codecs.{whole}
-use Rattle.eris_msg.specs.Frames.{frame}
+use Rattle.eris_codec.specs.Codecs.{whole}
+use Rattle.eris_frame.specs.Frames.{frame}
 use Rattle.eris_msg.specs.Messages.{message}
 use Rattle.eris_msg.specs.Spellings.{message_fits, spelling}
 use Rattle.eris_rules.specs.Refusals.{frame_sizes}

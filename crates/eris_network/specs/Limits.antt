@@ -2,7 +2,7 @@
 use Rattle.std.specs.Prelude.{◌≡◌, ◌<◌, ◌+◌, ⊤, ℕ, Some, List, length}
 use Rattle.eris_msg.specs.declared.message.Message.{Message}
 use Rattle.eris_msg.specs.declared.outgoing.Outgoing.{Outgoing}
-use Rattle.eris_rules.specs.declared.refusal.Refusal.TheVariants as refusals
+use Rattle.eris_event.specs.declared.refusal.Refusal.TheVariants as refusals
 use Rattle.eris_rules.specs.Refusals.{frame_size, frame_sizes, limit_met}
 use Rattle.eris_network.specs.declared.send_fault.SendFault.{SendFault}
 use Rattle.eris_network.specs.declared.send_fault.SendFault.TheVariants.{Packets, Bytes, NoMemory}

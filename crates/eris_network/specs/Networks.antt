@@ -1,7 +1,7 @@
 -- What a network is to contracts.
 use Rattle.std.specs.Prelude.{⊤, ℕ, Bool, Option, Some, None, List, option_map, slice_get}
 use Rattle.eris_msg.specs.declared.outgoing.Outgoing.{Outgoing}
-use Rattle.eris_msg.specs.Frames.{frame}
+use Rattle.eris_frame.specs.Frames.{frame}
 use Rattle.eris_msg.specs.Spellings.{IsSpelling, spelling}
 
 -- every message that was ever sent, in order of sending; the numbers of those that wait, ascending; and whether

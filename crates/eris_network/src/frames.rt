@@ -2,7 +2,7 @@ ghost use Rattle.std.specs.Prelude.{◌≡◌, ◌<◌, ◌≤◌, ◌+◌, ◌+
 ghost use Rattle.eris_in_place.specs.MessageRanges.{MessageFits, SendsFit};
 ghost use Rattle.eris_msg.specs.Spellings.{IsSpelling, message_fits, spelling};
 ghost use Rattle.eris_rules.specs.Refusals.{frame_sizes};
-ghost use Rattle.eris_msg.specs.Frames.{frame};
+ghost use Rattle.eris_frame.specs.Frames.{frame};
 ghost use Rattle.eris_network.specs.KeptFrames.{IsKept, outgoing_of, frame_in, addressee_in};
 ghost use Rattle.eris_network.specs.Limits.{IsTooLong, IsTooLongSpelled, IsTooMuch, byte_limit, packet_limit};
 ghost use Rattle.eris_network.specs.Networks.{IsSpelledBy, frame_at};

@@ -1,5 +1,5 @@
 -- What is seen of all replicas: settled logs, packets that are held, and lines of a report.
-use Rattle.std.proofs.Common.{◌≡◌, ◌<◌, ◌≤◌, ℕ, zero, suc, ◌+◌, ◌||◌, Bool, List, [], ◌∷◌, ◌++◌, length, map, get_or, take, Option, Some, None, refl, ap, sym, subst, ◌∙◌, arith, add-one}
+use Rattle.std.proofs.Common.{◌≡◌, ◌<◌, ◌≤◌, ℕ, zero, suc, ◌+◌, ◌||◌, Bool, List, [], ◌∷◌, ◌++◌, length, map, get_or, take, Option, Some, refl, ap, sym, ◌∙◌, arith}
 use Rattle.std.specs.Prelude.{slice_get, option_map}
 use Rattle.std.specs.List.{list_any}
 use Rattle.std.proofs.lemmas.Option.{slice_get-map, slice_get-get_or, slice_get_past}
@@ -14,7 +14,7 @@ use Rattle.eris_rules.specs.Reports.{all_lines, replica_line, shard_lines}
 use Rattle.eris_rules.specs.ReplicaStates.{ReplicaState}
 use Rattle.eris_rules.specs.WorldOrders.{is_held_by, is_held_in}
 use Rattle.eris_rules.specs.Worlds.{WorldState, in_row, replica_at}
-use Rattle.eris_script.specs.declared.report.ReplicaLine.{ReplicaLine}
+use Rattle.eris_event.specs.declared.report.ReplicaLine.{ReplicaLine}
 use Rattle.eris_nodes.specs.MemberRows.{MembersValue, states_of}
 use Rattle.eris_nodes.specs.ReplicaRows.{AreRows, log_of, rows_of}
 

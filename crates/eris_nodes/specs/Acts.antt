@@ -4,7 +4,7 @@ use Rattle.eris_base.specs.declared.ids.TxnId.{TxnId}
 use Rattle.eris_txn.specs.declared.key.Key.{Key}
 use Rattle.eris_txn.specs.declared.txn.Txn.{Txn}
 use Rattle.eris_client.specs.ClientRanges.{TxnFits}
-use Rattle.eris_msg.specs.Fields as f
+use Rattle.eris_codec.specs.Fields as f
 use Rattle.eris_rules.specs.Clients.{abort, retry, submit}
 use Rattle.eris_rules.specs.ClientStates.{ClientIdentity, ClientOut, ClientState}
 use Rattle.eris_nodes.specs.declared.act.Act.{Act}

@@ -2,7 +2,7 @@ ghost use Rattle.std.specs.Prelude.{◌≡◌, ◌==◌, [], None, false, true, 
 ghost use Rattle.std.specs.List.{list_any};
 ghost use Rattle.eris_in_place.specs.MessageRanges.{SendsFit};
 ghost use Rattle.eris_msg.specs.declared.message.Message.{Message};
-ghost use Rattle.eris_msg.specs.Fields as f;
+ghost use Rattle.eris_codec.specs.Fields as f;
 ghost use Rattle.eris_msg.specs.Spellings.{IsSpelling};
 ghost use Rattle.eris_rules.specs.ClientStates.{first_client, transaction_at};
 ghost use Rattle.eris_rules.specs.Clients.{client_step, own_id};

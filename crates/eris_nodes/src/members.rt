@@ -13,11 +13,11 @@ ghost use Rattle.eris_nodes.specs.ReplicaRows.{log_of};
 ghost use Rattle.eris_nodes.specs.MemberRows.{AreMembers, identity, members_step, states_of};
 
 use eris_base::{Config, Epoch, NoMemory, ReplicaId, Row, ShardId};
+use eris_event::{ReplicaLine, ReplicaState};
 use eris_msg::Outgoing;
 use eris_order_lines::has_packet;
 use eris_replica::Replica;
 use eris_rules::{ReplicaInput, ReplicaStatus};
-use eris_script::{ReplicaLine, ReplicaState};
 use eris_txn::Packet;
 use std::alloc::Global;
 use std::marker::Model;

@@ -13,9 +13,9 @@ ghost use Rattle.eris_rules.specs.Worlds.{WorldState, replica_at};
 
 use crate::members::{Members, leave};
 use eris_base::{Config, Epoch, NoMemory, ReplicaId, Row, ShardId};
+use eris_event::ReplicaLine;
 use eris_msg::Outgoing;
 use eris_rules::ReplicaInput;
-use eris_script::ReplicaLine;
 use eris_txn::Packet;
 use std::alloc::Global;
 use std::marker::Model;

@@ -20,7 +20,7 @@ use Rattle.eris_epoch.specs.SamePackets.{same_packet, is_listed}
 use Rattle.eris_epoch.specs.Sorting.{sorted, turn_cmp}
 use Rattle.eris_epoch.proofs.EpochLaws.{IsClosing-close, IsShardLog-shard_log}
 use Rattle.eris_epoch.proofs.SameLaws.{same_packet-refl, same_packet-true}
-use Rattle.eris_script.specs.declared.event.Event.{Event}
+use Rattle.eris_event.specs.declared.event.Event.{Event}
 use Rattle.eris_rules.specs.Coordinators.{epoch_tally, left_behind}
 use Rattle.eris_rules.specs.CoordStates.{CoordState, begun_epoch, first_coordinator}
 use Rattle.eris_rules.specs.Worlds.{first_world}

@@ -25,7 +25,7 @@ use Rattle.eris_epoch.specs.EpochTallies.{replicas_of, is_ready}
 use Rattle.eris_epoch.proofs.EpochLaws.{IsClosing-close, ready_has_quorum}
 use Rattle.eris_msg.specs.declared.message.Message.{Message}
 use Rattle.eris_msg.specs.declared.outgoing.Outgoing.{Outgoing}
-use Rattle.eris_script.specs.declared.event.Event.{Event}
+use Rattle.eris_event.specs.declared.event.Event.{Event}
 use Rattle.eris_rules.specs.Coordinators.{coord_steps_in, starts, raises_target, epoch_tally, left_behind, after_closing, closes}
 use Rattle.eris_rules.specs.CoordStates.{EpochCoord, CoordState, CoordOut, begun_epoch, first_coordinator}
 use Rattle.eris_rules.specs.ReplicaStates.{EpochReplica, ReplicaState, fresh}

@@ -5,7 +5,7 @@ use Rattle.eris_base.specs.declared.ids.Epoch.{Epoch}
 use Rattle.eris_base.specs.declared.ids.ShardId.{ShardId}
 use Rattle.eris_base.specs.ConfigLimits.{ConfigValue}
 use Rattle.eris_txn.specs.declared.packet.Packet.{Packet}
-use Rattle.eris_script.specs.declared.event.Event.{Event}
+use Rattle.eris_event.specs.declared.event.Event.{Event}
 use Rattle.eris_rules.specs.WorldOrders.{order}
 use Rattle.eris_epoch_law.specs.Members.{In}
 use Rattle.eris_epoch_law.specs.Stamped.{HasNumber}

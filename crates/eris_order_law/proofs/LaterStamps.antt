@@ -7,7 +7,7 @@ use Rattle.std.proofs.lemmas.Bool.Decides.{nat_tests}
 use Rattle.eris_base.specs.declared.ids.Epoch.{Epoch}
 use Rattle.eris_base.specs.ConfigLimits.{ConfigValue}
 use Rattle.eris_txn.specs.declared.packet.Packet.{Packet}
-use Rattle.eris_script.specs.declared.event.Event.{Event}
+use Rattle.eris_event.specs.declared.event.Event.{Event}
 use Rattle.eris_epoch.specs.SamePackets.{is_listed}
 use Rattle.eris_rules.specs.WorldOrders.{stamping_list, survives_now, survives, order}
 use Rattle.eris_epoch_law.specs.Members.{In}

@@ -13,7 +13,7 @@ use Rattle.eris_log.specs.Entries.{entry_of, is_dropped}
 use Rattle.eris_log.specs.Held.{packet_at}
 use Rattle.eris_log.specs.Places.{any_among}
 use Rattle.eris_log.specs.Laws.Entries.{HoldsTxn-is_txn, is_txn-entry_of}
-use Rattle.eris_script.specs.declared.event.Event.{Event}
+use Rattle.eris_event.specs.declared.event.Event.{Event}
 use Rattle.eris_rules.specs.Good.{kept_upto}
 use Rattle.eris_rules.specs.ReplicaStates.{ReplicaState}
 use Rattle.eris_rules.specs.WorldOrders.{order_on}

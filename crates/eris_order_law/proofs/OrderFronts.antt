@@ -11,13 +11,13 @@ use Rattle.eris_txn.specs.declared.packet.Packet.{Packet}
 use Rattle.eris_log.specs.Places.{any_among}
 use Rattle.eris_epoch.specs.Closing.{shard_log}
 use Rattle.eris_epoch.specs.SamePackets.{is_listed}
-use Rattle.eris_script.specs.declared.event.Event.{Event}
+use Rattle.eris_event.specs.declared.event.Event.{Event}
 use Rattle.eris_rules.specs.CoordStates.{EpochCoord}
 use Rattle.eris_rules.specs.WorldOrders.{survives_now, survives, order_on, is_held_in}
 use Rattle.eris_epoch_law.specs.EpochWorlds.{EpochWorld}
 use Rattle.eris_epoch_law.specs.Members.{In}
 use Rattle.eris_epoch_law.specs.Stamped.{HasNumber}
-use Rattle.eris_epoch_law.proofs.Members.{In-append, In-left, In-right}
+use Rattle.eris_epoch_law.proofs.Members.{In-append, In-left, In-right, In-filtered}
 use Rattle.eris_agreement.specs.Alone.{stamping_of}
 use Rattle.eris_agreement.specs.ClosedBelow.{closed_below}
 use Rattle.eris_agreement.specs.EpochRuns.{servers_at}
@@ -27,7 +27,6 @@ use Rattle.eris_agreement.proofs.ClosedLaws.{listed-In, In-listed}
 use Rattle.eris_order_law.proofs.Closings.{alone, is_alone}
 use Rattle.eris_order_law.proofs.ClosedLogs.{log-In, In-log, prior_ascends}
 use Rattle.eris_order_law.proofs.LaterStamps.{below-In, In-below}
-use Rattle.eris_epoch_law.proofs.Members.{In-filtered}
 use Rattle.eris_order_law.proofs.OrderMembers.{has_number, names-has, order_ascends, order_on-In, In-order_on, IsOnOrder}
 use Rattle.eris_order_law.proofs.ShardLists.{Before, Ascends, Ascends-append, Cut, cut, number_on, number_on-is}
 use Rattle.eris_order_law.proofs.SpokenClosed.{closed_fine, closed_stamped}

@@ -12,7 +12,7 @@ use Rattle.eris_base.proofs.Each.{Each-append}
 use Rattle.eris_base.proofs.IdLaws.{epoch_equal}
 use Rattle.eris_txn.specs.declared.packet.Packet.{Packet}
 use Rattle.eris_locks.specs.Shards.{names_shard}
-use Rattle.eris_script.specs.declared.event.Event.{Event}
+use Rattle.eris_event.specs.declared.event.Event.{Event}
 use Rattle.eris_sequencer.specs.declared.stamping.Stamping.{Stamping}
 use Rattle.eris_sequencer.specs.Sequencers.{new_stamping}
 use Rattle.eris_rules.specs.WorldOrders.{stamping_list, survives, order, order_on}

@@ -20,7 +20,7 @@ use Rattle.eris_log.specs.Places.{any_among}
 use Rattle.eris_epoch.specs.Closing.{shard_log}
 use Rattle.eris_epoch.specs.SamePackets.{same_packet}
 use Rattle.eris_epoch.proofs.SameLaws.{same_packet-refl}
-use Rattle.eris_script.specs.declared.event.Event.{Event}
+use Rattle.eris_event.specs.declared.event.Event.{Event}
 use Rattle.eris_sequencer.specs.declared.stamping.Stamping.{Stamping}
 use Rattle.eris_rules.specs.Good.{is_kept, kept_at, kept_upto, settled_log, BeginsWith, AreSettledRight}
 use Rattle.eris_rules.specs.ReplicaAnswers.{open_packet}

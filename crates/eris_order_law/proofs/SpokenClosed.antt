@@ -15,7 +15,7 @@ use Rattle.eris_log.specs.Places.{any_among}
 use Rattle.eris_log.specs.Laws.Entries.{HoldsTxn-is_txn, is_txn-entry_of}
 use Rattle.eris_drop.proofs.QuorumLaws.{quorums_meet, replica}
 use Rattle.eris_epoch.specs.declared.noted.NotedPart.{NotedPart}
-use Rattle.eris_script.specs.declared.event.Event.{Event}
+use Rattle.eris_event.specs.declared.event.Event.{Event}
 use Rattle.eris_sequencer.specs.declared.stamping.Stamping.{Stamping}
 use Rattle.eris_rules.specs.Coordinators.{left_behind}
 use Rattle.eris_rules.specs.CoordStates.{EpochCoord, begun_epoch, first_coordinator}

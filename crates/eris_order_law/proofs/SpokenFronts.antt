@@ -11,7 +11,7 @@ use Rattle.eris_log.specs.Entries.{is_dropped}
 use Rattle.eris_log.specs.Held.{packet_at}
 use Rattle.eris_log.specs.Places.{any_among}
 use Rattle.eris_epoch.specs.Closing.{shard_log}
-use Rattle.eris_script.specs.declared.event.Event.{Event}
+use Rattle.eris_event.specs.declared.event.Event.{Event}
 use Rattle.eris_sequencer.specs.declared.stamping.Stamping.{Stamping}
 use Rattle.eris_rules.specs.Good.{kept_upto}
 use Rattle.eris_rules.specs.ReplicaStates.{ReplicaState, EpochReplica}

@@ -6,7 +6,7 @@ ghost use Rattle.eris_base.specs.declared.ids.View.{View};
 ghost use Rattle.eris_base.specs.ConfigLimits.{ConfigValue};
 ghost use Rattle.eris_txn.specs.declared.packet.Packet.{Packet};
 ghost use Rattle.eris_log.specs.Places.{any_among};
-ghost use Rattle.eris_script.specs.declared.event.Event.{Event};
+ghost use Rattle.eris_event.specs.declared.event.Event.{Event};
 ghost use Rattle.eris_rules.specs.Good.{BeginsWith, AreSettledRight, settled_log};
 ghost use Rattle.eris_rules.specs.WorldOrders.{order, order_on};
 ghost use Rattle.eris_epoch_law.specs.EpochWorlds.{EpochEvent, moment};

@@ -19,7 +19,7 @@ use Rattle.eris_txn.specs.Bodies.{any_on, has_shard, participants_of}
 use Rattle.eris_txn.proofs.BodyLaws.{has_shard-participants}
 use Rattle.eris_audit.specs.Histories.{first_submit, is_submitted, txn_of}
 use Rattle.eris_locks.specs.Shards.{names_shard}
-use Rattle.eris_script.specs.declared.event.Event.{Event}
+use Rattle.eris_event.specs.declared.event.Event.{Event}
 use Rattle.eris_sequencer.specs.Sequencers.{first_stampings, new_stamping}
 use Rattle.eris_sequencer.specs.Stamps.{next_packet}
 use Rattle.eris_rules.specs.ClientStates.{ClientIdentity}

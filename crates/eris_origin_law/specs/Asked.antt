@@ -7,7 +7,7 @@ use Rattle.eris_base.specs.ConfigLimits.{ConfigValue}
 use Rattle.eris_txn.specs.declared.packet.Packet.{Packet}
 use Rattle.eris_txn.specs.Bodies.{has_shard, participants_of}
 use Rattle.eris_locks.specs.Shards.{names_shard}
-use Rattle.eris_script.specs.declared.event.Event.{Event}
+use Rattle.eris_event.specs.declared.event.Event.{Event}
 use Rattle.eris_course_law.specs.Submitted.{HasAsked}
 
 -- the packet was stamped for such an Ask, and its stamp names the shards of its body

@@ -4,7 +4,7 @@ ghost use Rattle.eris_base.specs.ConfigLimits.{ConfigValue};
 ghost use Rattle.eris_txn.specs.declared.packet.Packet.{Packet};
 ghost use Rattle.eris_audit.specs.Histories.{is_submitted, txn_of};
 ghost use Rattle.eris_locks.specs.Shards.{names_shard};
-ghost use Rattle.eris_script.specs.declared.event.Event.{Event};
+ghost use Rattle.eris_event.specs.declared.event.Event.{Event};
 ghost use Rattle.eris_rules.specs.WorldOrders.{stamping_list};
 ghost use Rattle.eris_serial.specs.Evidence.{BodyOrigin, HasCommitOrigin};
 ghost use Rattle.eris_serial.specs.Transactions.{takes_part};

@@ -19,12 +19,12 @@ use Rattle.eris_log.specs.Laws.Parts.{IsPart-empty_part}
 use Rattle.eris_log.specs.Places.{places_at}
 use Rattle.eris_in_place.specs.MessageRanges.{PacketFits, PacketsFit, PlaceFits, PartFits, MessageFits}
 use Rattle.eris_msg.specs.declared.message.Message.{Message}
-use Rattle.eris_msg.specs.Fields as f
-use Rattle.eris_msg.specs.Parts as p
-use Rattle.eris_msg.specs.Ranges.{PairInRange}
+use Rattle.eris_codec.specs.Fields as f
+use Rattle.eris_codec.specs.Parts as p
+use Rattle.eris_codec.specs.Ranges.{PairInRange}
 use Rattle.eris_msg.proofs.MessageFits as m
-use Rattle.eris_msg.proofs.RangeLaws.{word_fits, pair_in_range}
-use Rattle.eris_msg.proofs.Sizes.{items_have}
+use Rattle.eris_codec.proofs.RangeLaws.{word_fits, pair_in_range}
+use Rattle.eris_codec.proofs.Sizes.{items_have}
 use Rattle.eris_rules.specs.declared.replica_input.ReplicaInput.{ReplicaInput}
 use Rattle.eris_rules.specs.EpochMessages.{EpochMessage, Stamped, Instructs, Notifies, Exchanges, Responds}
 use Rattle.eris_rules.specs.EpochReplicas.{EpochInput, Get, Probe, Suspect, Sync}

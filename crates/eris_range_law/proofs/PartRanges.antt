@@ -28,12 +28,12 @@ use Rattle.eris_log.specs.Laws.Places.{all-with_place, all-with_places, all-cont
 use Rattle.eris_locks.specs.Shards.{names_shard}
 use Rattle.eris_in_place.specs.MessageRanges.{PlaceFits, PartFits, PairsFit}
 use Rattle.eris_in_place.proofs.MessageRangeLaws.{marks_fit}
-use Rattle.eris_msg.specs.Codecs.{items_fit}
-use Rattle.eris_msg.specs.Fields as f
-use Rattle.eris_msg.specs.Ranges.{PairInRange, PlaceInRange, HeldInRange}
-use Rattle.eris_msg.proofs.FieldLaws.{at_least}
-use Rattle.eris_msg.proofs.RangeLaws.{next_shard}
-use Rattle.eris_msg.proofs.Sizes.{items_have}
+use Rattle.eris_codec.specs.Codecs.{items_fit}
+use Rattle.eris_codec.specs.Fields as f
+use Rattle.eris_codec.specs.Ranges.{PairInRange, PlaceInRange, HeldInRange}
+use Rattle.eris_codec.proofs.FieldLaws.{at_least}
+use Rattle.eris_codec.proofs.RangeLaws.{next_shard}
+use Rattle.eris_codec.proofs.Sizes.{items_have}
 use Rattle.eris_rules.specs.Settling.{mark_all_dropped}
 use Rattle.eris_view.specs.ViewTallies.{with_part, union_of}
 use Rattle.eris_answer_law.specs.Answering.{PacketIsRight}

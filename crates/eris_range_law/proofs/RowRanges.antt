@@ -12,7 +12,7 @@ use Rattle.eris_log.specs.Held.{packet_at}
 use Rattle.eris_log.specs.Parts.{hold, mark_found, mark_dropped}
 use Rattle.eris_drop.specs.declared.request.RequestAnswer.{RequestAnswer}
 use Rattle.eris_drop.specs.Requests.{answer_request}
-use Rattle.eris_msg.specs.Fields as f
+use Rattle.eris_codec.specs.Fields as f
 use Rattle.eris_msg.proofs.MessageFits as m
 use Rattle.eris_rules.specs.EpochMessages.{EpochMessage, Stamped, Instructs, Notifies, Exchanges, Responds, Request, Found, Dropped, ViewChange, StartView, SyncAsk, Ack, Settled}
 use Rattle.eris_rules.specs.EpochReplicas.{has_spoken_for, speaks_again, holds_packet, txn_at, txn_named, txn_row, gives_packet, drops_for_a_time, answers_request, request_row, found_row, dropped_row, probe_normal, probe_changing, probe_row, EpochInput, Get, Probe, Suspect, Sync, message_row, row, epoch_step}

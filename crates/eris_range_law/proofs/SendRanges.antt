@@ -18,8 +18,8 @@ use Rattle.eris_locks.specs.Shards.{names_shard}
 use Rattle.eris_locks.specs.States.{phase_of}
 use Rattle.eris_in_place.specs.MessageRanges.{MessageFits, SendsFit}
 use Rattle.eris_msg.specs.declared.outgoing.Outgoing.{Outgoing}
-use Rattle.eris_msg.specs.Fields as f
-use Rattle.eris_msg.specs.Ranges.{HeldInRange}
+use Rattle.eris_codec.specs.Fields as f
+use Rattle.eris_codec.specs.Ranges.{HeldInRange}
 use Rattle.eris_msg.proofs.MessageFits as m
 use Rattle.eris_rules.specs.EpochMessages.{EpochSend}
 use Rattle.eris_rules.specs.Outer.{outer_sends}

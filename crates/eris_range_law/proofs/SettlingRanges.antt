@@ -10,10 +10,10 @@ use Rattle.eris_base.specs.Quorums.{same_replica}
 use Rattle.eris_log.specs.Entries.{length_of, covers}
 use Rattle.eris_in_place.specs.MessageRanges.{SendsFit}
 use Rattle.eris_in_place.proofs.SendLaws.{each_sent}
-use Rattle.eris_msg.specs.Fields as f
+use Rattle.eris_codec.specs.Fields as f
 use Rattle.eris_msg.proofs.MessageFits as m
-use Rattle.eris_msg.proofs.RangeLaws.{word_fits}
-use Rattle.eris_msg.proofs.Sizes.{word_below}
+use Rattle.eris_codec.proofs.RangeLaws.{word_fits}
+use Rattle.eris_codec.proofs.Sizes.{word_below}
 use Rattle.eris_rules.specs.EpochMessages.{Exchanges, Settled, SyncAsk, send_each}
 use Rattle.eris_rules.specs.Outer.{outer_sends}
 use Rattle.eris_rules.specs.ReplicaStates.{Member, EpochReplica, EpochOut, quiet, is_learner, others}

@@ -10,7 +10,7 @@ use Rattle.eris_base.specs.Quorums.{same_replica}
 use Rattle.eris_base.proofs.IdLaws.{shard_by_test}
 use Rattle.eris_log.specs.PartValues.{PartValue}
 use Rattle.eris_log.specs.Parts.{merge}
-use Rattle.eris_msg.specs.Fields as f
+use Rattle.eris_codec.specs.Fields as f
 use Rattle.eris_rules.specs.EpochMessages.{Exchanges, StartView}
 use Rattle.eris_rules.specs.ReplicaStates.{Member, EpochReplica, EpochOut, quiet, is_normal, is_learner, others}
 use Rattle.eris_rules.specs.Views.{entered, became_normal, shows_part, view_tally, starts_view, tests_view, enters_view, suspect_row, notes_part, tells_view, view_change_same, view_change_shown, is_shown_to, view_change_row, begins_here, takes_view, start_view_row}

@@ -12,7 +12,7 @@ use Rattle.eris_log.specs.PartValues.{PartValue}
 use Rattle.eris_answer_law.specs.Answering.{PacketIsRight}
 use Rattle.eris_in_place.specs.MessageRanges.{PlaceFits, PartFits, MessageFits, SendsFit}
 use Rattle.eris_locks.specs.Shards.{names_shard}
-use Rattle.eris_msg.specs.Fields as f
+use Rattle.eris_codec.specs.Fields as f
 use Rattle.eris_rules.specs.declared.replica_input.ReplicaInput.{ReplicaInput}
 use Rattle.eris_rules.specs.EpochMessages.{EpochMessage, Stamped, Instructs, Notifies, Exchanges, Responds, Request, Found, Dropped, ViewChange, StartView, SyncAsk, Ack, Settled}
 use Rattle.eris_rules.specs.EpochReplicas.{EpochInput, Get, Probe, Suspect, Sync}

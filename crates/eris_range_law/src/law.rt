@@ -1,7 +1,6 @@
 ghost use Rattle.std.specs.Prelude.{◌≡◌, true};
-ghost use Rattle.eris_base.specs.declared.ids.ShardId.{ShardId};
 ghost use Rattle.eris_base.specs.ConfigLimits.{IsConfig};
-ghost use Rattle.eris_msg.specs.Fields as f;
+ghost use Rattle.eris_codec.specs.Fields as f;
 ghost use Rattle.eris_rules.specs.declared.replica_input.ReplicaInput.{ReplicaInput};
 ghost use Rattle.eris_rules.specs.ReplicaStates.{Identity, ReplicaState, first_state};
 ghost use Rattle.eris_rules.specs.Replicas.{replica_step};

@@ -7,8 +7,8 @@ use Rattle.eris_base.specs.ConfigLimits.{ConfigValue, IsConfig}
 use Rattle.eris_in_place.specs.MessageRanges.{SendsFit}
 use Rattle.eris_in_place.proofs.MessageRangeLaws.{message_is_in_range}
 use Rattle.eris_msg.specs.declared.outgoing.Outgoing.{Outgoing}
-use Rattle.eris_msg.specs.Fields as f
-use Rattle.eris_msg.proofs.FieldLaws.{tag_is}
+use Rattle.eris_codec.specs.Fields as f
+use Rattle.eris_codec.proofs.FieldLaws.{tag_is}
 use Rattle.eris_range_law.specs.Fitting.{ReplicaFits, ReplicaInputFits}
 use Rattle.eris_range_law.proofs.EpochRanges.{first_state_fits, replica_step_fits}
 use Rattle.eris_rules.specs.declared.replica_input.ReplicaInput.{ReplicaInput}

@@ -1,7 +1,8 @@
 use crate::words::txn_id;
 use anyhow::{Context, bail};
 use eris_base::{ClientId, Row};
-use eris_script::{Event, Line, parse_line};
+use eris_event::Event;
+use eris_grammar::{Line, parse_line};
 use eris_txn::{Answer, HistoryEvent, OpAnswer, Txn};
 use std::alloc::Global;
 

@@ -1,7 +1,7 @@
 use crate::words::{count, name, word};
 use anyhow::bail;
 use eris_base::{Dup, Epoch, NoMemory, ReplicaId, ShardId, View};
-use eris_script::{ReplicaLine, ReplicaState};
+use eris_event::{ReplicaLine, ReplicaState};
 use std::alloc::Global;
 
 /// The line `SHARD REPLICA STATE EPOCH VIEW HELD LENGTH SETTLED`.

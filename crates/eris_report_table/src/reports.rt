@@ -4,7 +4,8 @@ use crate::replicas::{is_copied, replica};
 use crate::words::{count, name};
 use anyhow::{Context, bail};
 use eris_base::{Config, Epoch, NoMemory, Row};
-use eris_script::{ReplicaLine, Report, print_report};
+use eris_event::{ReplicaLine, Report};
+use eris_report::print_report;
 use std::alloc::{AllocError, Global};
 
 /// The comments of a block of lines.

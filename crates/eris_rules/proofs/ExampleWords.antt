@@ -15,10 +15,10 @@ use Rattle.eris_txn.specs.declared.plan.Setting.{Setting}
 use Rattle.eris_txn.specs.PlanValues.{PlanValue}
 use Rattle.eris_audit.specs.declared.order_line.OrderLine.{OrderLine}
 use Rattle.eris_audit.specs.declared.outcome.Outcome.{Outcome}
-use Rattle.eris_script.specs.declared.event.Event.{Event}
-use Rattle.eris_script.specs.declared.report.ReplicaLine.{ReplicaLine}
-use Rattle.eris_script.specs.declared.report.ReplicaState.{ReplicaState}
-use Rattle.eris_script.specs.declared.report.Report.{Report}
+use Rattle.eris_event.specs.declared.event.Event.{Event}
+use Rattle.eris_event.specs.declared.report.ReplicaLine.{ReplicaLine}
+use Rattle.eris_event.specs.declared.report.ReplicaState.{ReplicaState}
+use Rattle.eris_event.specs.declared.report.Report.{Report}
 use Rattle.eris_rules.specs.Reports.{report_of}
 use Rattle.eris_rules.specs.Runs.{run}
 

@@ -1,12 +1,12 @@
-pub mod OuterLaws
-pub mod Opened
-mod ExampleWords
-mod PlainExamples
-mod DropExamples
-mod ViewExamples
-mod GeneralExamples
-mod EpochExamples
-mod RefusalExamples
 pub mod ClientIds
+mod DropExamples
+mod EpochExamples
+mod ExampleWords
+mod GeneralExamples
 pub mod InPlaceLaws
+pub mod Opened
+pub mod OuterLaws
+mod PlainExamples
+mod RefusalExamples
 pub mod RunLaws
+mod ViewExamples

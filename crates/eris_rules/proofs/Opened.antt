@@ -13,9 +13,9 @@ use Rattle.eris_log.specs.Held as log_held
 use Rattle.eris_log.specs.Parts as log_parts
 use Rattle.eris_log.specs.Places as log_places
 use Rattle.eris_log.specs.Sorted as log_sorted
-use Rattle.eris_msg.specs.Fields as msg_fields
+use Rattle.eris_codec.specs.Fields as msg_fields
 use Rattle.eris_msg.specs.Messages as msg_messages
-use Rattle.eris_msg.specs.Parts as msg_parts
+use Rattle.eris_codec.specs.Parts as msg_parts
 use Rattle.eris_rules.specs.Addressees as rules_addressees
 use Rattle.eris_rules.specs.ClientStates as rules_client_states
 use Rattle.eris_rules.specs.Clients as rules_clients

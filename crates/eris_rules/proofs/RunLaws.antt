@@ -1,7 +1,7 @@
 -- What was refused gives no world.
 use Rattle.std.proofs.Common.{◌≡◌, List, None, Some, [], ◌∷◌}
 use Rattle.eris_base.specs.ConfigLimits.{ConfigValue}
-use Rattle.eris_script.specs.declared.event.Event.{Event}
+use Rattle.eris_event.specs.declared.event.Event.{Event}
 use Rattle.eris_rules.specs.Runs.{run_from}
 use Rattle.eris_rules.specs.Worlds.{WorldState}
 

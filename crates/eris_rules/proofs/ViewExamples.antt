@@ -6,8 +6,8 @@ use Rattle.eris_txn.specs.declared.op.Op.TheVariants.{Get, Put}
 use Rattle.eris_txn.specs.declared.op.OpAnswer.{OpAnswer}
 use Rattle.eris_txn.specs.declared.txn.Txn.{Txn}
 use Rattle.eris_audit.specs.declared.outcome.Outcome.{Outcome}
-use Rattle.eris_script.specs.declared.event.Event.{Event}
-use Rattle.eris_script.specs.declared.report.ReplicaState.TheVariants.{Crashed, Normal}
+use Rattle.eris_event.specs.declared.event.Event.{Event}
+use Rattle.eris_event.specs.declared.report.ReplicaState.TheVariants.{Crashed, Normal}
 use Rattle.eris_rules.proofs.ExampleWords.{system, reported, epoch, a, txn, submit, flow, lose, suspect, sync, crash, line, ordered}
 use Rattle.eris_rules.proofs.Opened.{all_rules}
 

@@ -15,7 +15,7 @@ use Rattle.eris_msg.specs.declared.message.Message.{Message}
 use Rattle.eris_msg.specs.declared.outgoing.Outgoing.{Outgoing}
 use Rattle.eris_sequencer.specs.Asks.{Asked, ask}
 use Rattle.eris_sequencer.specs.Sequencers.{newest_of, replace}
-use Rattle.eris_script.specs.declared.event.Event.{Event}
+use Rattle.eris_event.specs.declared.event.Event.{Event}
 use Rattle.eris_rules.specs.declared.coord_input.CoordInput.{CoordInput}
 use Rattle.eris_rules.specs.declared.replica_input.ReplicaInput.{ReplicaInput}
 use Rattle.eris_rules.specs.declared.transaction.Transaction.{Transaction}

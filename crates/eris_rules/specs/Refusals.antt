@@ -13,12 +13,12 @@ use Rattle.eris_txn.specs.declared.key.Key.{Key}
 use Rattle.eris_txn.specs.Operations.{key_of}
 use Rattle.eris_msg.specs.declared.message.Message.{Message}
 use Rattle.eris_msg.specs.declared.outgoing.Outgoing.{Outgoing}
-use Rattle.eris_msg.specs.Codecs.{whole}
+use Rattle.eris_codec.specs.Codecs.{whole}
 use Rattle.eris_msg.specs.Messages.{message}
 use Rattle.eris_sequencer.specs.Sequencers.{newest_of}
-use Rattle.eris_script.specs.declared.event.Event.{Event}
-use Rattle.eris_rules.specs.declared.refusal.Refusal.{Refusal}
-use Rattle.eris_rules.specs.declared.refusal.Refusal.TheVariants.{NoSuchClient, NoSuchShard, NoSuchTxn, OwnTxn, NotGeneral, NoSuchPacket, NoSuchSequencer, NoSuchReplica, Crashed, IsMessage, Packets, Bytes}
+use Rattle.eris_event.specs.declared.event.Event.{Event}
+use Rattle.eris_event.specs.declared.refusal.Refusal.{Refusal}
+use Rattle.eris_event.specs.declared.refusal.Refusal.TheVariants.{NoSuchClient, NoSuchShard, NoSuchTxn, OwnTxn, NotGeneral, NoSuchPacket, NoSuchSequencer, NoSuchReplica, Crashed, IsMessage, Packets, Bytes}
 use Rattle.eris_rules.specs.declared.transaction.Transaction.{Transaction}
 use Rattle.eris_rules.specs.ClientStates.{plan_of}
 use Rattle.eris_rules.specs.Happenings.{happens, submitted_at}

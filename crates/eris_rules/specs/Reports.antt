@@ -4,10 +4,10 @@ use Rattle.eris_base.specs.declared.ids.ReplicaId.{ReplicaId}
 use Rattle.eris_base.specs.declared.ids.ShardId.{ShardId}
 use Rattle.eris_base.specs.ConfigLimits.{ConfigValue}
 use Rattle.eris_log.specs.Entries.{length_of}
-use Rattle.eris_script.specs.declared.report.ReplicaLine.{ReplicaLine}
-use Rattle.eris_script.specs.declared.report.ReplicaState.{ReplicaState as LineState}
-use Rattle.eris_script.specs.declared.report.ReplicaState.TheVariants.{Crashed, Stopped, Normal, Changing}
-use Rattle.eris_script.specs.declared.report.Report.{Report}
+use Rattle.eris_event.specs.declared.report.ReplicaLine.{ReplicaLine}
+use Rattle.eris_event.specs.declared.report.ReplicaState.{ReplicaState as LineState}
+use Rattle.eris_event.specs.declared.report.ReplicaState.TheVariants.{Crashed, Stopped, Normal, Changing}
+use Rattle.eris_event.specs.declared.report.Report.{Report}
 use Rattle.eris_rules.specs.ReplicaStates.{ReplicaState, is_normal, is_stopped}
 use Rattle.eris_rules.specs.WorldOrders.{lines_of_world}
 use Rattle.eris_rules.specs.Worlds.{WorldState, has_crashed}

@@ -1,8 +1,8 @@
 -- THE RUN of a list of events.
 use Rattle.std.specs.Prelude.{Option, Some, None, List, [], ◌∷◌}
 use Rattle.eris_base.specs.ConfigLimits.{ConfigValue}
-use Rattle.eris_script.specs.declared.event.Event.{Event}
-use Rattle.eris_rules.specs.declared.refusal.Refusal.{Refusal}
+use Rattle.eris_event.specs.declared.event.Event.{Event}
+use Rattle.eris_event.specs.declared.refusal.Refusal.{Refusal}
 use Rattle.eris_rules.specs.Happenings.{happens}
 use Rattle.eris_rules.specs.Refusals.{refusal}
 use Rattle.eris_rules.specs.Worlds.{WorldState, first_world}

@@ -4,14 +4,13 @@
 #![tactic(auto)]
 
 mod coord_input;
-mod refusal;
 mod replica_input;
 mod replica_status;
 mod telling;
 mod transaction;
 
 pub use coord_input::CoordInput;
-pub use refusal::Refusal;
+pub use eris_event::Refusal;
 pub use replica_input::ReplicaInput;
 pub use replica_status::ReplicaStatus;
 pub use telling::{tell, tell_each};

@@ -2,18 +2,19 @@
 use Rattle.std.proofs.Common.{◌≡◌, inl, inr, ℕ, ◌≤◌, ◌<◌, Bool, true, false, cond, nat_lt, IfOk, Result, Ok, Err, List, length, ap, sym, ◌∙◌, subst, refl, arith}
 use Rattle.std.proofs.lemmas.Bool.Decides.{nat_tests}
 use Rattle.eris_base.specs.ConfigLimits.{ConfigValue}
-use Rattle.eris_script.specs.ReportText.{report_text}
+use Rattle.eris_report.specs.ReportText.{report_text}
 use Rattle.eris_rules.specs.Reports.{report_of}
-use Rattle.eris_run.specs.declared.due.Due.{Due}
-use Rattle.eris_run.specs.declared.refused.Refused.{Refused}
-use Rattle.eris_run.specs.declared.refused.Why.{Why}
-use Rattle.eris_run.specs.declared.refused.Why.TheVariants as why
-use Rattle.eris_run.specs.declared.status.Status.{Status}
-use Rattle.eris_run.specs.declared.status.Status.TheVariants.{Done, TooLarge}
-use Rattle.eris_run.specs.Calls.{HasText, IfBadScript, IfTooLarge, IsAccepted, RefusesLarge, RefusesLine, ReportsRun, answer_to, input_limit, status_due, status_for, status_of, text_due}
+use Rattle.eris_status.specs.declared.due.Due.{Due}
+use Rattle.eris_status.specs.declared.refused.Refused.{Refused}
+use Rattle.eris_status.specs.declared.refused.Why.{Why}
+use Rattle.eris_status.specs.declared.refused.Why.TheVariants as why
+use Rattle.eris_status.specs.declared.status.Status.{Status}
+use Rattle.eris_status.specs.declared.status.Status.TheVariants.{Done, TooLarge}
+use Rattle.eris_status.specs.Statuses.{HasText, IfBadScript, IfTooLarge, status_of}
+use Rattle.eris_run.specs.Calls.{IsAccepted, RefusesLarge, RefusesLine, ReportsRun, answer_to, input_limit, status_due, status_for, text_due}
 use Rattle.eris_run.specs.Dues.{IsDue, IsJudged}
 use Rattle.eris_run.specs.ScriptRuns.{Ran, outcome}
-use Rattle.eris_run.specs.Texts.{refusal_text, too_large_text}
+use Rattle.eris_status.specs.Texts.{refusal_text, too_large_text}
 use Rattle.eris_run.proofs.Completeness.{done_due}
 use Rattle.eris_run.proofs.FirstRefusals.{first_refused}
 use Rattle.eris_run.proofs.ScriptLaws.{line_above, script_taken}

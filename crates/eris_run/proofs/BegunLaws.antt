@@ -18,8 +18,8 @@ use Rattle.eris_sequencer.specs.declared.stamping.Stamping.{Stamping}
 use Rattle.eris_sequencer.specs.Asks.{Asked, ask}
 use Rattle.eris_sequencer.specs.Sequencers.{new_stamping, replace}
 use Rattle.eris_sequencer.proofs.AskLaws.{ask-cases}
-use Rattle.eris_script.specs.declared.event.Event.{Event}
-use Rattle.eris_script.specs.declared.event.Event.TheVariants as event
+use Rattle.eris_event.specs.declared.event.Event.{Event}
+use Rattle.eris_event.specs.declared.event.Event.TheVariants as event
 use Rattle.eris_rules.specs.declared.coord_input.CoordInput.{CoordInput}
 use Rattle.eris_rules.specs.declared.replica_input.ReplicaInput.{ReplicaInput}
 use Rattle.eris_rules.specs.ClientStates.{ClientIdentity, ClientState, ClientOut}

@@ -2,23 +2,23 @@
 use Rattle.std.proofs.Common.{◌≡◌, ℕ, ◌+◌, ◌≤◌, Bool, false, cond, nat_lt, Option, Some, None, Result, Ok, Err, List, [], ◌∷◌, ◌++◌, length, ap, sym, ◌∙◌, refl, subst, arith}
 use Rattle.std.proofs.lemmas.Bool.Decides.{nat_tests}
 use Rattle.eris_base.specs.ConfigLimits.{ConfigValue}
-use Rattle.eris_script.specs.declared.event.Event.{Event}
-use Rattle.eris_script.specs.declared.header.Header.{Header}
-use Rattle.eris_script.specs.declared.line.Line.{Line}
-use Rattle.eris_script.specs.declared.reason.Reason.{Reason}
-use Rattle.eris_script.specs.Cuts.{lines}
-use Rattle.eris_script.specs.Headers.{header_of}
-use Rattle.eris_script.specs.LineForms.{line_of}
-use Rattle.eris_script.specs.Scripts.{BadLine, Script, events_from, events_of, script, script_in, with_config, with_events}
-use Rattle.eris_rules.specs.declared.refusal.Refusal.{Refusal}
+use Rattle.eris_event.specs.declared.event.Event.{Event}
+use Rattle.eris_grammar.specs.declared.header.Header.{Header}
+use Rattle.eris_grammar.specs.declared.line.Line.{Line}
+use Rattle.eris_words.specs.declared.reason.Reason.{Reason}
+use Rattle.eris_words.specs.Cuts.{lines}
+use Rattle.eris_grammar.specs.Headers.{header_of}
+use Rattle.eris_grammar.specs.LineForms.{line_of}
+use Rattle.eris_grammar.specs.Scripts.{BadLine, Script, events_from, events_of, script, script_in, with_config, with_events}
+use Rattle.eris_event.specs.declared.refusal.Refusal.{Refusal}
 use Rattle.eris_rules.specs.Happenings.{happens}
 use Rattle.eris_rules.specs.Refusals.{refusal}
 use Rattle.eris_rules.specs.Runs.{run, run_from, taken_by, world_after}
 use Rattle.eris_rules.specs.Worlds.{WorldState, first_world}
 use Rattle.eris_rules.proofs.RunLaws.{none_run}
-use Rattle.eris_run.specs.declared.refused.Refused.{Refused}
-use Rattle.eris_run.specs.declared.refused.Why.{Why}
-use Rattle.eris_run.specs.declared.status.Status.TheVariants.{Done, TooLarge}
+use Rattle.eris_status.specs.declared.refused.Refused.{Refused}
+use Rattle.eris_status.specs.declared.refused.Why.{Why}
+use Rattle.eris_status.specs.declared.status.Status.TheVariants.{Done, TooLarge}
 use Rattle.eris_run.specs.Calls.{input_limit, status_due, status_for}
 use Rattle.eris_run.specs.ScriptRuns.{after_event, after_events, after_header, after_line, after_lines, after_read, after_said, after_text, outcome, ran_in, told, unless}
 

@@ -5,15 +5,16 @@ use Rattle.std.specs.Prelude.{slice_get, ◌||◌}
 use Rattle.std.proofs.lemmas.List.{replicate-append-replicate}
 use Rattle.eris_base.specs.ConfigLimits.{ConfigValue}
 use Rattle.eris_base.specs.Each.{Each}
-use Rattle.eris_script.specs.declared.event.Event.{Event}
-use Rattle.eris_script.specs.declared.event.Event.TheVariants.{Flow, Lose}
-use Rattle.eris_script.specs.declared.line.Line.{Line}
-use Rattle.eris_script.specs.declared.line.Line.TheVariants as line
-use Rattle.eris_script.specs.LineForms.{fits_event, line_of}
-use Rattle.eris_script.specs.Scripts.{events_of}
-use Rattle.eris_script.proofs.SpellingLaws.{read_as_spelled}
-use Rattle.eris_rules.specs.declared.refusal.Refusal.{Refusal}
-use Rattle.eris_rules.specs.declared.refusal.Refusal.TheVariants as refusals
+use Rattle.eris_event.specs.declared.event.Event.{Event}
+use Rattle.eris_event.specs.declared.event.Event.TheVariants.{Flow, Lose}
+use Rattle.eris_grammar.specs.declared.line.Line.{Line}
+use Rattle.eris_grammar.specs.declared.line.Line.TheVariants as line
+use Rattle.eris_event.specs.EventRanges.{fits_event}
+use Rattle.eris_grammar.specs.LineForms.{line_of}
+use Rattle.eris_grammar.specs.Scripts.{events_of}
+use Rattle.eris_grammar.proofs.SpellingLaws.{read_as_spelled}
+use Rattle.eris_event.specs.declared.refusal.Refusal.{Refusal}
+use Rattle.eris_event.specs.declared.refusal.Refusal.TheVariants as refusals
 use Rattle.eris_rules.specs.ClientStates.{ClientState, first_client}
 use Rattle.eris_rules.specs.Happenings.{flows, happens, loses}
 use Rattle.eris_rules.specs.Refusals.{cause, frame_sizes, limit_met, refusal}
@@ -22,11 +23,12 @@ use Rattle.eris_rules.specs.Worlds.{WorldState, first_world}
 use Rattle.eris_sequencer.specs.Sequencers.{first_stampings, newest_of}
 use Rattle.eris_world.specs.WorldValues.{CanGoOn, EventFits, HasRoom, IsCause, WorldValue}
 use Rattle.eris_world.proofs.Events.{second_none}
-use Rattle.eris_run.specs.declared.refused.Refused.{Refused}
-use Rattle.eris_run.specs.declared.refused.Stop.{Stop}
-use Rattle.eris_run.specs.declared.refused.Stop.TheVariants as stop
-use Rattle.eris_run.specs.LineRuns.{IfRefused, IsFine, LineFits, Refuses, RefusesSaid, Takes, TakesSaid, begins, begun, cost, stop_at, submissions}
-use Rattle.eris_run.specs.ScriptRuns.{after_event, after_events, after_said, told, unless, why_of}
+use Rattle.eris_status.specs.declared.refused.Refused.{Refused}
+use Rattle.eris_status.specs.declared.refused.Stop.{Stop}
+use Rattle.eris_status.specs.declared.refused.Stop.TheVariants as stop
+use Rattle.eris_run.specs.LineRuns.{IfRefused, IsFine, LineFits, Refuses, RefusesSaid, Takes, TakesSaid, begins, begun, cost, submissions}
+use Rattle.eris_status.specs.Stops.{stop_at, why_of}
+use Rattle.eris_run.specs.ScriptRuns.{after_event, after_events, after_said, told, unless}
 use Rattle.eris_run.proofs.BegunLaws.{event_adds, small_cost}
 
 -- ---- room for one more event

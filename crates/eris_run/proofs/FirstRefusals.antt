@@ -1,28 +1,29 @@
 -- What a run refuses is the first line that is refused. Used where a refused script is told.
 use Rattle.std.proofs.Common.{◌≡◌, inl, inr, ℕ, ◌+◌, Option, Some, None, Result, Ok, Err, IfErr, List, [], ◌∷◌, ◌++◌, length, ap, sym, ◌∙◌, refl, subst, arith}
 use Rattle.eris_base.specs.ConfigLimits.{ConfigValue}
-use Rattle.eris_script.specs.declared.event.Event.{Event}
-use Rattle.eris_script.specs.declared.header.Header.{Header}
-use Rattle.eris_script.specs.declared.line.Line.{Line}
-use Rattle.eris_script.specs.declared.reason.Reason.{Reason}
-use Rattle.eris_script.specs.declared.reason.Reason.TheVariants as reasons
-use Rattle.eris_script.specs.Cuts.{lines, words}
-use Rattle.eris_script.specs.Headers.{header_of}
-use Rattle.eris_script.specs.LineForms.{line_of}
-use Rattle.eris_script.specs.Scripts.{BadLine, events_from, events_of, with_events}
-use Rattle.eris_rules.specs.declared.refusal.Refusal.{Refusal}
+use Rattle.eris_event.specs.declared.event.Event.{Event}
+use Rattle.eris_grammar.specs.declared.header.Header.{Header}
+use Rattle.eris_grammar.specs.declared.line.Line.{Line}
+use Rattle.eris_words.specs.declared.reason.Reason.{Reason}
+use Rattle.eris_words.specs.declared.reason.Reason.TheVariants as reasons
+use Rattle.eris_words.specs.Cuts.{lines, words}
+use Rattle.eris_grammar.specs.Headers.{header_of}
+use Rattle.eris_grammar.specs.LineForms.{line_of}
+use Rattle.eris_grammar.specs.Scripts.{BadLine, events_from, events_of, with_events}
+use Rattle.eris_event.specs.declared.refusal.Refusal.{Refusal}
 use Rattle.eris_rules.specs.Happenings.{happens}
 use Rattle.eris_rules.specs.Refusals.{refusal}
 use Rattle.eris_rules.specs.Runs.{run}
 use Rattle.eris_rules.specs.Worlds.{WorldState, first_world}
-use Rattle.eris_run.specs.declared.refused.Refused.{Refused}
-use Rattle.eris_run.specs.declared.refused.Stop.{Stop}
-use Rattle.eris_run.specs.declared.refused.Stop.TheVariants as stops
-use Rattle.eris_run.specs.declared.refused.Why.{Why}
-use Rattle.eris_run.specs.declared.refused.Why.TheVariants as whys
+use Rattle.eris_status.specs.declared.refused.Refused.{Refused}
+use Rattle.eris_status.specs.declared.refused.Stop.{Stop}
+use Rattle.eris_status.specs.declared.refused.Stop.TheVariants as stops
+use Rattle.eris_status.specs.declared.refused.Why.{Why}
+use Rattle.eris_status.specs.declared.refused.Why.TheVariants as whys
 use Rattle.eris_run.specs.FirstRefused.{IsFirstRefused, RefusesBehind, RefusesEvent, RefusesHeader, RefusesText, first_of}
 use Rattle.eris_run.specs.LineRuns.{IfRefused}
-use Rattle.eris_run.specs.ScriptRuns.{Ran, after_event, after_events, after_header, after_line, after_lines, after_read, after_said, after_text, outcome, ran_in, told, unless, why_of}
+use Rattle.eris_run.specs.ScriptRuns.{Ran, after_event, after_events, after_header, after_line, after_lines, after_read, after_said, after_text, outcome, ran_in, told, unless}
+use Rattle.eris_status.specs.Stops.{why_of}
 use Rattle.eris_run.proofs.EventRuns.{after_append}
 use Rattle.eris_run.proofs.ScriptLaws.{line_taken, ran_is}
 

@@ -1,17 +1,17 @@
 -- How far a run of lines has come. Used where the lines of a script are run, and where its header is read.
 use Rattle.std.proofs.Common.{◌≡◌, ℕ, ◌+◌, ◌<◌, ◌≤◌, Result, Ok, Err, IfOk, IfErr, List, [], ◌∷◌, length, ap, sym, ◌∙◌, refl, arith, subst}
 use Rattle.eris_base.specs.ConfigLimits.{ConfigValue}
-use Rattle.eris_script.specs.declared.header.Header.{Header}
-use Rattle.eris_script.specs.declared.reason.Reason.{Reason}
-use Rattle.eris_script.specs.declared.reason.Reason.TheVariants as reason
-use Rattle.eris_script.specs.Cuts.{cut_lines, lines, words}
-use Rattle.eris_script.specs.Headers.{header_of}
+use Rattle.eris_grammar.specs.declared.header.Header.{Header}
+use Rattle.eris_words.specs.declared.reason.Reason.{Reason}
+use Rattle.eris_words.specs.declared.reason.Reason.TheVariants as reason
+use Rattle.eris_words.specs.Cuts.{cut_lines, lines, words}
+use Rattle.eris_grammar.specs.Headers.{header_of}
 use Rattle.eris_rules.specs.Worlds.{WorldState, first_world}
 use Rattle.eris_world.specs.WorldValues.{WorldValue}
-use Rattle.eris_run.specs.declared.refused.Stop.{Stop}
-use Rattle.eris_run.specs.declared.refused.Stop.TheVariants as stop
-use Rattle.eris_run.specs.declared.refused.Why.{Why}
-use Rattle.eris_run.specs.declared.refused.Why.TheVariants as whys
+use Rattle.eris_status.specs.declared.refused.Stop.{Stop}
+use Rattle.eris_status.specs.declared.refused.Stop.TheVariants as stop
+use Rattle.eris_status.specs.declared.refused.Why.{Why}
+use Rattle.eris_status.specs.declared.refused.Why.TheVariants as whys
 use Rattle.eris_run.specs.LineRuns.{IfRefused, IsAfterScript, IsFine, RefusesAt, RefusesOne, TakesLine, TakesLines, begins, begun}
 use Rattle.eris_run.specs.ScriptRuns.{after_header, after_line, after_lines, after_text, outcome, ran_in}
 

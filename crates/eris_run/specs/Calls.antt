@@ -1,20 +1,20 @@
 -- WHAT THE BYTES OF A SCRIPT ARE DUE: a status and a text, and what each status says of these very bytes and this very text.
-use Rattle.std.specs.Prelude.{◌≡◌, ◌⊎◌, ℕ, ◌≤◌, ◌<◌, ⊤, nat_lt, Some, Result, Ok, Err, List, length, if◌then◌else◌}
-use Rattle.eris_script.specs.declared.reason.Reason.{Reason}
-use Rattle.eris_script.specs.ReportText.{report_text}
-use Rattle.eris_script.specs.Scripts.{Script, script}
+use Rattle.std.specs.Prelude.{◌≡◌, ◌⊎◌, ℕ, ◌≤◌, ◌<◌, nat_lt, Some, Result, Ok, Err, List, length, if◌then◌else◌}
+use Rattle.eris_words.specs.declared.reason.Reason.{Reason}
+use Rattle.eris_report.specs.ReportText.{report_text}
+use Rattle.eris_grammar.specs.Scripts.{Script, script}
 use Rattle.eris_rules.specs.Reports.{report_of}
 use Rattle.eris_rules.specs.Runs.{run}
 use Rattle.eris_rules.specs.Worlds.{WorldState}
-use Rattle.eris_run.specs.declared.refused.Limit.{Limit}
-use Rattle.eris_run.specs.declared.refused.Refused.{Refused}
-use Rattle.eris_run.specs.declared.refused.Why.{Why}
-use Rattle.eris_run.specs.declared.refused.Why.TheVariants as why
-use Rattle.eris_run.specs.declared.status.Status.{Status}
-use Rattle.eris_run.specs.declared.status.Status.TheVariants.{Done, CheckedNo, Usage, BadScript, ReadFault, WriteFault, NoMemory, TooLarge}
+use Rattle.eris_event.specs.declared.limit.Limit.{Limit}
+use Rattle.eris_status.specs.declared.refused.Refused.{Refused}
+use Rattle.eris_status.specs.declared.refused.Why.TheVariants as why
+use Rattle.eris_status.specs.declared.status.Status.{Status}
+use Rattle.eris_status.specs.declared.status.Status.TheVariants.{Done, NoMemory, TooLarge}
 use Rattle.eris_run.specs.FirstRefused.{IsFirstRefused}
 use Rattle.eris_run.specs.ScriptRuns.{Ran, outcome}
-use Rattle.eris_run.specs.Texts.{bad_script_text, limit_text, refusal_text, too_large_text}
+use Rattle.eris_status.specs.Texts.{bad_script_text, limit_text, refusal_text, too_large_text}
+use Rattle.eris_status.specs.Statuses.{status_of}
 
 -- how many bytes a script may have
 abbrev pub input_limit : ℕ
@@ -62,11 +62,6 @@ answer_to (Err refused) = refusal_text refused.line refused.why
 abbrev pub text_due : List ℕ → List ℕ
 text_due bytes = if nat_lt input_limit (length bytes) then too_large_text else answer_to (outcome bytes)
 
--- the status of a refused line
-abbrev pub status_of : ℕ → Why → Status
-status_of line (why.Reason reason) = BadScript line reason
-status_of line (why.Limit limit) = TooLarge line
-
 -- the status that is due for what comes of a script
 abbrev pub status_for : Result Ran Refused → Status
 status_for (Ok ran) = Done
@@ -81,36 +76,3 @@ abbrev pub IsAccepted : List ℕ → Status → Type 0
 IsAccepted bytes status =
     (whole : Script) (world : WorldState) → length bytes ≤ input_limit → script bytes ≡ Ok whole → run whole.config whole.events ≡ Some world
     → (status ≡ Done) ⊎ (status ≡ NoMemory)
-
--- what holds where the status names a refused line
-abbrev pub IfBadScript : Status → (ℕ → Reason → Type 0) → Type 0
-IfBadScript Done P = ⊤
-IfBadScript CheckedNo P = ⊤
-IfBadScript Usage P = ⊤
-IfBadScript (BadScript line reason) P = P line reason
-IfBadScript ReadFault P = ⊤
-IfBadScript WriteFault P = ⊤
-IfBadScript NoMemory P = ⊤
-IfBadScript (TooLarge line) P = ⊤
-
--- what holds where the status is that of too large an input, or of a line with too large an event
-abbrev pub IfTooLarge : Status → (ℕ → Type 0) → Type 0
-IfTooLarge Done P = ⊤
-IfTooLarge CheckedNo P = ⊤
-IfTooLarge Usage P = ⊤
-IfTooLarge (BadScript line reason) P = ⊤
-IfTooLarge ReadFault P = ⊤
-IfTooLarge WriteFault P = ⊤
-IfTooLarge NoMemory P = ⊤
-IfTooLarge (TooLarge line) P = P line
-
--- a status with which a text is due, of a word that isn't `check`
-abbrev pub HasText : Status → Type 0
-HasText Done = ⊤
-HasText CheckedNo = ⊥
-HasText Usage = ⊥
-HasText (BadScript line reason) = ⊤
-HasText ReadFault = ⊥
-HasText WriteFault = ⊥
-HasText NoMemory = ⊥
-HasText (TooLarge line) = ⊤

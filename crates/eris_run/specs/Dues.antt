@@ -1,11 +1,10 @@
 -- What is due for bytes, and what that says of them.
 use Rattle.std.specs.Prelude.{◌≡◌, ℕ, List}
-use Rattle.eris_run.specs.declared.due.Due.{Due}
-use Rattle.eris_run.specs.declared.refused.Refused.{Refused}
-use Rattle.eris_run.specs.declared.status.Status.TheVariants.{Done}
-use Rattle.eris_run.specs.Calls.{HasText, IfBadScript, IfTooLarge, IsAccepted, RefusesLarge, RefusesLine, ReportsRun, answer_to, status_due, status_for, status_of, text_due}
+use Rattle.eris_status.specs.declared.due.Due.{Due}
+use Rattle.eris_status.specs.declared.status.Status.TheVariants.{Done}
+use Rattle.eris_status.specs.Statuses.{HasText, IfBadScript, IfTooLarge}
+use Rattle.eris_run.specs.Calls.{IsAccepted, RefusesLarge, RefusesLine, ReportsRun, answer_to, status_due, status_for, text_due}
 use Rattle.eris_run.specs.ScriptRuns.{outcome}
-use Rattle.eris_run.specs.Texts.{refusal_text}
 
 -- the status and the text are those that the bytes are due, and what each status says of them holds
 pub record IsDue (bytes : List ℕ) (due : Due) : Type 0 where
@@ -21,8 +20,3 @@ pub record IsDue (bytes : List ℕ) (due : Due) : Type 0 where
 pub record IsJudged (bytes : List ℕ) (due : Due) : Type 0 where
   pub status : due.status ≡ status_for (outcome bytes)
   pub text : due.text ≡ answer_to (outcome bytes)
-
--- the status and the text are those for a refused line
-pub record IsRefusal (refused : Refused) (due : Due) : Type 0 where
-  pub status : due.status ≡ status_of refused.line refused.why
-  pub text : due.text ≡ refusal_text refused.line refused.why

@@ -2,21 +2,21 @@
 -- taken; and it isn't read itself, or one of its events is refused.
 use Rattle.std.specs.Prelude.{◌≡◌, ◌⊎◌, ℕ, ◌+◌, Some, Ok, Err, List, [], ◌∷◌, ◌++◌, length}
 use Rattle.eris_base.specs.ConfigLimits.{ConfigValue}
-use Rattle.eris_script.specs.declared.event.Event.{Event}
-use Rattle.eris_script.specs.declared.header.Header.{Header}
-use Rattle.eris_script.specs.declared.line.Line.{Line}
-use Rattle.eris_script.specs.declared.reason.Reason.{Reason}
-use Rattle.eris_script.specs.Cuts.{lines}
-use Rattle.eris_script.specs.Headers.{header_of}
-use Rattle.eris_script.specs.LineForms.{line_of}
-use Rattle.eris_script.specs.Scripts.{events_from, events_of}
-use Rattle.eris_rules.specs.declared.refusal.Refusal.{Refusal}
+use Rattle.eris_event.specs.declared.event.Event.{Event}
+use Rattle.eris_grammar.specs.declared.header.Header.{Header}
+use Rattle.eris_grammar.specs.declared.line.Line.{Line}
+use Rattle.eris_words.specs.declared.reason.Reason.{Reason}
+use Rattle.eris_words.specs.Cuts.{lines}
+use Rattle.eris_grammar.specs.Headers.{header_of}
+use Rattle.eris_grammar.specs.LineForms.{line_of}
+use Rattle.eris_grammar.specs.Scripts.{events_from, events_of}
+use Rattle.eris_event.specs.declared.refusal.Refusal.{Refusal}
 use Rattle.eris_rules.specs.Refusals.{refusal}
 use Rattle.eris_rules.specs.Runs.{run, run_from}
 use Rattle.eris_rules.specs.Worlds.{WorldState}
-use Rattle.eris_run.specs.declared.refused.Why.{Why}
-use Rattle.eris_run.specs.declared.refused.Why.TheVariants as whys
-use Rattle.eris_run.specs.ScriptRuns.{why_of}
+use Rattle.eris_status.specs.declared.refused.Why.{Why}
+use Rattle.eris_status.specs.declared.refused.Why.TheVariants as whys
+use Rattle.eris_status.specs.Stops.{why_of}
 
 -- the first of these events are taken, and the next is refused
 pub record RefusesEvent (config : ConfigValue) (world : WorldState) (events : List Event) (cause : Refusal) : Type 0 where

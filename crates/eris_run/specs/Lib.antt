@@ -3,5 +3,3 @@ pub mod Dues
 pub mod FirstRefused
 pub mod LineRuns
 pub mod ScriptRuns
-pub mod Statuses
-pub mod Texts

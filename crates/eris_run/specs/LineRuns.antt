@@ -1,28 +1,23 @@
 -- How the lines of a script take a world on.
 use Rattle.std.specs.Prelude.{◌≡◌, ℕ, ◌+◌, ◌≤◌, ⊤, false, None, Some, List, [], ◌∷◌, length, Ok, Err}
 use Rattle.eris_base.specs.ConfigLimits.{ConfigValue}
-use Rattle.eris_script.specs.declared.event.Event.{Event}
-use Rattle.eris_script.specs.declared.event.Event.TheVariants as event
-use Rattle.eris_script.specs.declared.line.Line.{Line}
-use Rattle.eris_script.specs.declared.line.Line.TheVariants as line
-use Rattle.eris_script.specs.Cuts.{lines}
-use Rattle.eris_script.specs.Scripts.{Script, script}
-use Rattle.eris_rules.specs.declared.refusal.Refusal.{Refusal}
-use Rattle.eris_rules.specs.declared.refusal.Refusal.TheVariants as refusals
+use Rattle.eris_event.specs.declared.event.Event.{Event}
+use Rattle.eris_event.specs.declared.event.Event.TheVariants as event
+use Rattle.eris_grammar.specs.declared.line.Line.{Line}
+use Rattle.eris_grammar.specs.declared.line.Line.TheVariants as line
+use Rattle.eris_words.specs.Cuts.{lines}
+use Rattle.eris_grammar.specs.Scripts.{Script, script}
+use Rattle.eris_event.specs.declared.refusal.Refusal.{Refusal}
 use Rattle.eris_rules.specs.ClientStates.{ClientState}
 use Rattle.eris_rules.specs.Refusals.{limit_met}
 use Rattle.eris_rules.specs.Runs.{run}
 use Rattle.eris_rules.specs.Worlds.{WorldState, first_world}
 use Rattle.eris_world.specs.WorldValues.{EventFits, WorldValue}
-use Rattle.eris_run.specs.declared.refused.Refused.{Refused}
-use Rattle.eris_run.specs.declared.refused.Stop.{Stop}
-use Rattle.eris_run.specs.declared.refused.Stop.TheVariants as stop
-use Rattle.eris_run.specs.ScriptRuns.{after_events, after_line, after_lines, after_said, outcome, why_of}
-
--- the run stops at this line, since the world refused its event
-abbrev pub stop_at : ℕ → Refusal → Stop
-stop_at number refusals.NoMemory = stop.NoMemory
-stop_at number cause = stop.Refused (record { line = number; why = why_of cause })
+use Rattle.eris_status.specs.declared.refused.Refused.{Refused}
+use Rattle.eris_status.specs.declared.refused.Stop.{Stop}
+use Rattle.eris_status.specs.declared.refused.Stop.TheVariants as stop
+use Rattle.eris_run.specs.ScriptRuns.{after_events, after_line, after_lines, after_said, outcome}
+use Rattle.eris_status.specs.Stops.{why_of}
 
 -- what holds where a line was refused
 abbrev pub IfRefused : Stop → (Refused → Type 0) → Type 0

@@ -2,40 +2,23 @@
 -- why. The events of a line are taken one after another; where one is refused, its line is, and nothing behind it counts.
 use Rattle.std.specs.Prelude.{ℕ, ◌+◌, Option, Some, None, Result, Ok, Err, List, [], ◌∷◌}
 use Rattle.eris_base.specs.ConfigLimits.{ConfigValue}
-use Rattle.eris_script.specs.declared.event.Event.{Event}
-use Rattle.eris_script.specs.declared.header.Header.{Header}
-use Rattle.eris_script.specs.declared.line.Line.{Line}
-use Rattle.eris_script.specs.declared.reason.Reason.{Reason}
-use Rattle.eris_script.specs.declared.reason.Reason.TheVariants as reason
-use Rattle.eris_script.specs.Cuts.{lines}
-use Rattle.eris_script.specs.Headers.{header_of}
-use Rattle.eris_script.specs.LineForms.{line_of}
-use Rattle.eris_script.specs.Scripts.{events_of}
-use Rattle.eris_rules.specs.declared.refusal.Refusal.{Refusal}
-use Rattle.eris_rules.specs.declared.refusal.Refusal.TheVariants as refusals
+use Rattle.eris_event.specs.declared.event.Event.{Event}
+use Rattle.eris_grammar.specs.declared.header.Header.{Header}
+use Rattle.eris_grammar.specs.declared.line.Line.{Line}
+use Rattle.eris_words.specs.declared.reason.Reason.{Reason}
+use Rattle.eris_words.specs.declared.reason.Reason.TheVariants as reason
+use Rattle.eris_words.specs.Cuts.{lines}
+use Rattle.eris_grammar.specs.Headers.{header_of}
+use Rattle.eris_grammar.specs.LineForms.{line_of}
+use Rattle.eris_grammar.specs.Scripts.{events_of}
+use Rattle.eris_event.specs.declared.refusal.Refusal.{Refusal}
 use Rattle.eris_rules.specs.Happenings.{happens}
 use Rattle.eris_rules.specs.Refusals.{refusal}
 use Rattle.eris_rules.specs.Worlds.{WorldState, first_world}
-use Rattle.eris_run.specs.declared.refused.Limit.TheVariants as limit
-use Rattle.eris_run.specs.declared.refused.Refused.{Refused}
-use Rattle.eris_run.specs.declared.refused.Why.{Why}
-use Rattle.eris_run.specs.declared.refused.Why.TheVariants as why
-
--- why a line is refused whose event the world refuses; want of memory is no cause, and no event is refused for it
-abbrev pub why_of : Refusal → Why
-why_of refusals.NoSuchClient = why.Reason reason.NoSuchClient
-why_of refusals.NoSuchShard = why.Reason reason.NoSuchShard
-why_of refusals.NoSuchTxn = why.Reason reason.NoSuchTxn
-why_of refusals.OwnTxn = why.Reason reason.OwnTxn
-why_of refusals.NotGeneral = why.Reason reason.NotGeneral
-why_of refusals.NoSuchPacket = why.Reason reason.NoSuchPacket
-why_of refusals.NoSuchSequencer = why.Reason reason.NoSuchSequencer
-why_of refusals.NoSuchReplica = why.Reason reason.NoSuchReplica
-why_of refusals.Crashed = why.Reason reason.Crashed
-why_of refusals.IsMessage = why.Reason reason.IsMessage
-why_of refusals.NoMemory = why.Reason reason.Word
-why_of refusals.Packets = why.Limit limit.Packets
-why_of refusals.Bytes = why.Limit limit.Bytes
+use Rattle.eris_status.specs.declared.refused.Refused.{Refused}
+use Rattle.eris_status.specs.declared.refused.Why.{Why}
+use Rattle.eris_status.specs.declared.refused.Why.TheVariants as why
+use Rattle.eris_status.specs.Stops.{why_of}
 
 -- the world after an event, unless it is refused
 abbrev pub unless : Option Refusal → WorldState → Result WorldState Refusal

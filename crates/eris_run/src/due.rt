@@ -1,27 +1,16 @@
 ghost use Rattle.std.specs.Prelude.{◌≡◌, ◌≤◌, length, IfOk};
-ghost use Rattle.eris_run.specs.Calls.{input_limit, status_of};
-ghost use Rattle.eris_run.specs.Dues.{IsDue, IsJudged, IsRefusal};
-ghost use Rattle.eris_run.specs.Texts.{too_large_text};
+ghost use Rattle.eris_run.specs.Calls.{input_limit};
+ghost use Rattle.eris_run.specs.Dues.{IsDue, IsJudged};
+ghost use Rattle.eris_status.specs.Texts.{too_large_text};
 
-use crate::refused::{Refused, Stop, Why};
 use crate::script_run::run_bytes;
-use crate::status::Status;
-use crate::texts::{refusal_text, too_large_text};
-use eris_base::{NoMemory, Row};
-use eris_script::print_report;
+use eris_base::NoMemory;
+use eris_report::print_report;
+use eris_status::{Due, Status, Stop, refuse_line, too_large_text};
 use std::alloc::Global;
 
 /// How many bytes a script may have.
 pub const INPUT_LIMIT: usize = 4_194_304;
-
-/// The text that is due, and the status of a call that has written it.
-#[derive(Debug, Drop)]
-pub struct Due {
-    /// How the call ends, where the whole text is written.
-    pub status: Status,
-    /// What is written.
-    pub text: Row<u8>,
-}
 
 /// What is due for these bytes, which are read as a script, of version 1 or 2, and run from the start of a
 /// whole system: `Done` and the report of the world after its last event; or the first line that is refused,
@@ -51,30 +40,6 @@ pub fn refuse_input(alloc: Global) -> Result<Due, NoMemory>
     let text = too_large_text(alloc)?;
     Ok(Due {
         status: Status::TooLarge { line: 0 },
-        text,
-    })
-}
-
-fn status_of(line: u32, why: Why) -> Status
-    ensures { result ≡ status_of line why }
-{
-    match why {
-        Why::Reason(reason) => Status::BadScript { line, reason },
-        Why::Limit(_) => Status::TooLarge { line },
-    }
-}
-
-/// What is due for a refused line: `bad script: line L REASON` or `too large: line L WHAT`, and its status.
-///
-/// # Errors
-///
-/// [`NoMemory`] where an allocation was refused.
-pub fn refuse_line(alloc: Global, refused: Refused) -> Result<Due, NoMemory>
-    ensures { IfOk result (IsRefusal refused) }
-{
-    let text = refusal_text(alloc, refused)?;
-    Ok(Due {
-        status: status_of(refused.line, refused.why),
         text,
     })
 }

@@ -1,14 +1,16 @@
 //! The run of a script: from its bytes to the world after it, and to the status and the text that they are due.
+//!
+//! # What its calls ask
+//!
+//! `run_bytes` asks for at most `INPUT_LIMIT` bytes, so that no count of lines or submissions can
+//! pass 32 bits. `script_due` and `refuse_input` ask nothing.
 #![tactic(auto)]
 
 mod due;
 mod line_run;
-mod refused;
 mod script_run;
-mod status;
-mod texts;
 
-pub use due::{Due, INPUT_LIMIT, refuse_input, refuse_line, script_due};
-pub use refused::{Limit, Refused, Stop, Why};
+pub use due::{INPUT_LIMIT, refuse_input, script_due};
+pub use eris_event::Limit;
+pub use eris_status::{Due, Refused, Status, Stop, Why, refuse_line};
 pub use script_run::run_bytes;
-pub use status::Status;

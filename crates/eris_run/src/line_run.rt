@@ -1,12 +1,14 @@
 ghost use Rattle.std.specs.Prelude.{◌≡◌, ◌⊎◌, ◌+◌, ◌<◌, ◌^◌, [], ◌∷◌, false, replicate, IfOk, IfErr, OnOk};
-ghost use Rattle.eris_script.specs.declared.event.Event.TheVariants.{Flow as flow_event, Lose as lose_event};
-ghost use Rattle.eris_script.specs.Forms.{Gives};
-ghost use Rattle.eris_script.specs.LineForms.{line_of};
+ghost use Rattle.eris_event.specs.declared.event.Event.TheVariants.{Flow as flow_event, Lose as lose_event};
+ghost use Rattle.eris_words.specs.Forms.{Gives};
+ghost use Rattle.eris_grammar.specs.LineForms.{line_of};
 ghost use Rattle.eris_world.specs.WorldValues.{EventFits};
 ghost use Rattle.eris_run.specs.LineRuns.{begun, cost, IfRefused, IsFine, LineFits, Refuses, RefusesAt, RefusesSaid, Takes, TakesLine, TakesSaid};
 
-use crate::refused::{Refused, Stop, Why, stop_at};
-use eris_script::{Event, Line, LineFault, parse_line};
+use eris_event::Event;
+use eris_grammar::{Line, parse_line};
+use eris_status::{Refused, Stop, Why, stop_at};
+use eris_words::LineFault;
 use eris_world::World;
 use std::alloc::Global;
 

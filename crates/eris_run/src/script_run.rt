@@ -5,9 +5,10 @@ ghost use Rattle.eris_run.specs.LineRuns.{begun, begins, IfRefused, IsAfterScrip
 ghost use Rattle.eris_run.specs.ScriptRuns.{outcome};
 
 use crate::line_run::run_line;
-use crate::refused::{Refused, Stop, Why};
 use eris_base::{Config, NoMemory};
-use eris_script::{Header, first_line, parse_header};
+use eris_grammar::{Header, parse_header};
+use eris_status::{Refused, Stop, Why};
+use eris_words::first_line;
 use eris_world::World;
 use std::alloc::Global;
 

@@ -17,7 +17,7 @@ use Rattle.eris_txn.specs.declared.packet.Packet.{Packet}
 use Rattle.eris_txn.specs.declared.txn.Txn.{Txn}
 use Rattle.eris_log.specs.Entries.{length_of}
 use Rattle.eris_msg.specs.declared.outgoing.Outgoing.{Outgoing}
-use Rattle.eris_script.specs.declared.event.Event.{Event}
+use Rattle.eris_event.specs.declared.event.Event.{Event}
 use Rattle.eris_rules.specs.Good.{settled_log}
 use Rattle.eris_rules.specs.ReplicaStates.{ReplicaState}
 use Rattle.eris_rules.specs.Runs.{run}

@@ -12,7 +12,7 @@
 mod reading;
 mod spelling;
 
-use eris_script::every_line_is_read_as_spelled;
+use eris_grammar::every_line_is_read_as_spelled;
 use reading::{event, header, line};
 use spelling::{decimals, number, reasons};
 use std::alloc::Global;

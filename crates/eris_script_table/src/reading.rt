@@ -1,7 +1,9 @@
 ghost use Rattle.std.specs.Prelude.{◌≡◌, ◌⊎◌};
 
 use eris_base::{Dup, NoMemory, Same};
-use eris_script::{Event, Line, LineFault, parse_header, parse_line, print_event};
+use eris_event::Event;
+use eris_grammar::{Line, parse_header, parse_line, print_event};
+use eris_words::LineFault;
 use std::alloc::Global;
 
 /// What the header says, or the reason for which it is refused.

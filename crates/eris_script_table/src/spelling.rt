@@ -1,6 +1,6 @@
 use anyhow::Context;
 use eris_base::Row;
-use eris_script::{Reason, append_decimal, read_number};
+use eris_words::{Reason, append_decimal, read_number};
 use std::alloc::Global;
 
 /// Every reason for which a line is refused.

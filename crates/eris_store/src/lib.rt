@@ -1,4 +1,8 @@
 //! A shard's store with locks, and why its answers are those of a plain run without locks and waiting.
+//!
+//! # What its calls ask
+//!
+//! All calls but `is_spent` ask that the store isn't spent, and nothing else.
 #![tactic(auto)]
 
 mod cells;

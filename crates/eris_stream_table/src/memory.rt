@@ -1,9 +1,9 @@
 ghost use Rattle.std.specs.Prelude.{◌≡◌, IfOk};
 
 use anyhow::Context;
-use eris_base::{
-    Failed, MemSink, MemSource, NoMemory, ReadEnd, Row, Sink, SureSink, SureSource, read_all,
-    write_all,
+use eris_base::{NoMemory, Row};
+use eris_stream::{
+    Failed, MemSink, MemSource, ReadEnd, Sink, SureSink, SureSource, read_all, write_all,
 };
 use std::alloc::Global;
 

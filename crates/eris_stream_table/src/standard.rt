@@ -1,5 +1,5 @@
 use crate::memory::told;
-use eris_base::{Failed, Sink, StdSink, StdSource, read_all, write_all};
+use eris_stream::{Failed, Sink, StdSink, StdSource, read_all, write_all};
 use std::alloc::Global;
 use std::io;
 use std::io::{ErrorKind, Read, Write};

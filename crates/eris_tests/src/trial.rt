@@ -1,6 +1,7 @@
 use crate::cases::{Call, Case};
-use eris_base::{MemSink, MemSource, NoMemory, Row};
+use eris_base::{NoMemory, Row};
 use eris_cmd::eris_call;
+use eris_stream::{MemSink, MemSource};
 use std::alloc::Global;
 
 /// How many bytes a read gives at most.

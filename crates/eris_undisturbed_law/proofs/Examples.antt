@@ -1,6 +1,6 @@
 -- How many deliveries it takes, computed: with one less a transaction isn't answered yet. Where no replica is to
 -- spare, the bound of the law is met exactly.
-use Rattle.std.proofs.Common.{◌≡◌, ℕ, Option, Some, List, [], ◌∷◌, ◌++◌, arith, codes, replicate, refl}
+use Rattle.std.proofs.Common.{◌≡◌, ℕ, Option, Some, List, [], ◌∷◌, ◌++◌, replicate, refl}
 use Rattle.std.specs.List.{flat_map}
 use Rattle.std.specs.Option.{option_map}
 use Rattle.eris_base.specs.declared.ids.TxnId.{TxnId}
@@ -9,16 +9,9 @@ use Rattle.eris_txn.specs.declared.history.HistoryEvent.{HistoryEvent}
 use Rattle.eris_txn.specs.declared.key.Key.{Key}
 use Rattle.eris_txn.specs.declared.op.Op.{Op}
 use Rattle.eris_txn.specs.declared.op.Op.TheVariants.{Add, Get, Put}
-use Rattle.eris_script.specs.declared.event.Event.{Event}
-use Rattle.eris_script.specs.declared.line.Line.{Line}
-use Rattle.eris_script.specs.Cuts.{cut_lines, words}
-use Rattle.eris_script.specs.Fields.{client, count, key as key_form, number, value}
-use Rattle.eris_script.specs.FixedWords.{line_word, op_word}
-use Rattle.eris_script.specs.Headers.{header_of}
-use Rattle.eris_script.specs.LineForms.{line_behind, line_of, said_by, submit_of}
-use Rattle.eris_script.specs.OpForms.{all_ops, op as op_form, op_behind, ops_of}
+use Rattle.eris_event.specs.declared.event.Event.{Event}
 use Rattle.eris_rules.specs.Runs.{run}
-use Rattle.eris_undisturbed_law.specs.Undisturbed.{IsUndisturbedScript, packets_for_all}
+use Rattle.eris_undisturbed_law.specs.Undisturbed.{packets_for_all}
 use Rattle.eris_rules.proofs.Opened.{all_rules}
 
 -- a system of so many shards, faults and clients, and words for what happens to it
@@ -125,27 +118,3 @@ learner_down = refl
 no_operation : answered (system 1 0 1) (submit 0 [] ∷ flow 20) ≡ Some []
 unfolding all_rules
 no_operation = refl
-
--- ---- what the law asks can be met
-abbrev text : List ℕ
-text = codes "eris 1 1 0 1" ++ 10 ∷ codes "submit 0 put 0/a 7" ++ 10 ∷ codes "flow 3" ++ 10 ∷ codes "# that is all" ++ 10 ∷ []
-
-abbrev put_line : Line
-put_line = Line.One (submit 0 (Put a 7 ∷ []))
-
--- a put with its deliveries, and a comment behind them
-text_undisturbed : IsUndisturbedScript text
-unfolding cut_lines words header_of line_of said_by line_word line_behind submit_of client number ops_of all_ops op_form op_word op_behind key_form value count
-text_undisturbed = record {
-  config = system 1 0 1;
-  said = put_line ∷ Line.Flow 3 ∷ Line.Skip ∷ [];
-  text = record {
-    first = codes "eris 1 1 0 1";
-    texts = codes "submit 0 put 0/a 7" ∷ codes "flow 3" ∷ codes "# that is all" ∷ [];
-    version = 1;
-    cut = refl;
-    headed = refl;
-    says = (refl, (refl, (refl, tt)));
-  };
-  undisturbed = record { front = put_line ∷ []; flows = 3; skipped = 1; are = refl; calm = refl; few = λ shard. omega arith; enough = omega arith };
-}

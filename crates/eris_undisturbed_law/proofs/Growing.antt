@@ -13,7 +13,7 @@ use Rattle.eris_base.specs.ConfigLimits.{ConfigValue}
 use Rattle.eris_txn.specs.PlanValues.{PlanValue}
 use Rattle.eris_msg.specs.declared.message.Message.{Message}
 use Rattle.eris_msg.specs.declared.outgoing.Outgoing.{Outgoing}
-use Rattle.eris_script.specs.declared.event.Event.{Event}
+use Rattle.eris_event.specs.declared.event.Event.{Event}
 use Rattle.eris_rules.specs.declared.replica_input.ReplicaInput.{ReplicaInput}
 use Rattle.eris_rules.specs.ClientStates.{ClientIdentity, ClientOut, ClientState}
 use Rattle.eris_rules.specs.Happenings.{aborts_plan, after_client, after_coordinator, after_replica, after_sequencer, arrives, client_acts, client_acts_by, comes_to, coordinator_takes, delivers, flows, happens, loses, plan_of_transaction, replica_steps, replica_takes, sequencer_takes, submitted_at}

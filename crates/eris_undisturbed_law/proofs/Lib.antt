@@ -1,6 +1,5 @@
-pub mod Growing
-pub mod Starting
-pub mod Running
 pub mod Answered
-pub mod Lines
 mod Examples
+pub mod Growing
+pub mod Running
+pub mod Starting

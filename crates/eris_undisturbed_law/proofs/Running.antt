@@ -9,7 +9,7 @@ use Rattle.eris_base.specs.ConfigLimits.{ConfigValue}
 use Rattle.eris_txn.specs.declared.history.HistoryEvent.{HistoryEvent}
 use Rattle.eris_txn.specs.declared.op.Op.{Op}
 use Rattle.eris_txn.specs.declared.txn.Txn.{Txn}
-use Rattle.eris_script.specs.declared.event.Event.{Event}
+use Rattle.eris_event.specs.declared.event.Event.{Event}
 use Rattle.eris_rules.specs.ClientStates.{next_id}
 use Rattle.eris_rules.specs.Clients.{begins_half, submit}
 use Rattle.eris_epoch_law.specs.Members.{In}

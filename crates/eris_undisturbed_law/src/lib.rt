@@ -4,4 +4,4 @@
 
 mod law;
 
-pub use law::{first_world_is_calm, undisturbed_scripts_answer};
+pub use law::{first_world_is_calm, undisturbed_runs_answer};

@@ -1,17 +1,17 @@
 -- Why an event is refused: its cause, else the limit that it meets. Used where an event is checked, and where it happens.
-use Rattle.std.proofs.Common.{◌≡◌, true, false, Option, Some, None, Result, Ok, Err, refl, ap, sym, subst, ◌∙◌}
+use Rattle.std.proofs.Common.{◌≡◌, Option, Some, None, Result, Err, ap, sym, subst, ◌∙◌}
 use Rattle.std.specs.Option.{option_or}
 use Rattle.eris_base.specs.ConfigLimits.{ConfigValue}
 use Rattle.eris_network.specs.declared.send_fault.SendFault.{SendFault}
 use Rattle.eris_network.specs.declared.send_fault.SendFault.TheVariants as faults
 use Rattle.eris_network.specs.Limits.{IsMetBy}
-use Rattle.eris_rules.specs.declared.refusal.Refusal.{Refusal}
-use Rattle.eris_rules.specs.declared.refusal.Refusal.TheVariants as r
+use Rattle.eris_event.specs.declared.refusal.Refusal.{Refusal}
+use Rattle.eris_event.specs.declared.refusal.Refusal.TheVariants as r
 use Rattle.eris_rules.specs.Happenings.{happens}
 use Rattle.eris_rules.specs.Refusals.{cause, limit_met, refusal}
 use Rattle.eris_rules.specs.Runs.{taken_by, world_after}
 use Rattle.eris_rules.specs.Worlds.{WorldState}
-use Rattle.eris_script.specs.declared.event.Event.{Event}
+use Rattle.eris_event.specs.declared.event.Event.{Event}
 use Rattle.eris_world.specs.Becoming.{Becomes}
 use Rattle.eris_world.specs.Checking.{IsTold, Tells, refusal_of}
 use Rattle.eris_world.specs.WorldValues.{IsCause, WorldValue}

@@ -1,7 +1,7 @@
 -- What is known of an event that isn't refused and whose fields are in the ranges of a script's lines. Used where events
 -- happen.
-use Rattle.std.proofs.Common.{◌≡◌, ◌<◌, ◌-◌, ◌==◌, ◌||◌, ◌&&◌, ◌⊎◌, ℕ, zero, suc, Bool, true, false, cond, not, length, map, nat_lt, List, [], ◌∷◌, Option, Some, None, refl, ap, sym, subst, ◌∙◌, inl, inr}
-use Rattle.std.specs.Prelude.{Result, Ok, Err, is_ok, slice_get, is_none}
+use Rattle.std.proofs.Common.{◌≡◌, ◌<◌, ◌-◌, ◌==◌, ◌||◌, ◌&&◌, ◌⊎◌, ℕ, zero, suc, Bool, true, false, cond, not, length, map, nat_lt, List, [], ◌∷◌, Option, Some, None, refl, ap, subst, inl, inr}
+use Rattle.std.specs.Prelude.{Result, Ok, Err, is_ok, slice_get}
 use Rattle.std.specs.Option.{option_or}
 use Rattle.std.specs.List.{list_all}
 use Rattle.std.proofs.lemmas.Bool.{and_parts}
@@ -16,11 +16,11 @@ use Rattle.eris_txn.specs.declared.op.Op.{Op}
 use Rattle.eris_txn.specs.declared.txn.Txn.TheVariants as txns
 use Rattle.eris_txn.specs.Operations.{key_of}
 use Rattle.eris_txn.specs.PlanValues.{PlanValue}
-use Rattle.eris_msg.specs.declared.fault.DecodeFault.TheVariants as faults
-use Rattle.eris_msg.specs.declared.fault.Wrong.{Wrong}
+use Rattle.eris_codec.specs.declared.fault.DecodeFault.TheVariants as faults
+use Rattle.eris_codec.specs.declared.fault.Wrong.{Wrong}
 use Rattle.eris_msg.specs.declared.message.Message.{Message}
 use Rattle.eris_msg.specs.declared.outgoing.Outgoing.{Outgoing}
-use Rattle.eris_msg.specs.Codecs.{whole}
+use Rattle.eris_codec.specs.Codecs.{whole}
 use Rattle.eris_msg.specs.Messages.{message}
 use Rattle.eris_msg.specs.Spellings.{IsSpelling}
 use Rattle.eris_msg.proofs.Decodes.{is_only}
@@ -28,15 +28,15 @@ use Rattle.eris_client.specs.ClientRanges.{TxnFits}
 use Rattle.eris_event_ranges.proofs.EventRanges.{ops_are_in_range, plan_is_in_range}
 use Rattle.eris_nodes.specs.declared.act.Act.{Act}
 use Rattle.eris_nodes.specs.Allowed.{CanActAt}
-use Rattle.eris_rules.specs.declared.refusal.Refusal.{Refusal}
-use Rattle.eris_rules.specs.declared.refusal.Refusal.TheVariants as refusals
+use Rattle.eris_event.specs.declared.refusal.Refusal.{Refusal}
+use Rattle.eris_event.specs.declared.refusal.Refusal.TheVariants as refusals
 use Rattle.eris_rules.specs.ClientStates.{ClientState}
 use Rattle.eris_rules.specs.Happenings.{submitted_at}
 use Rattle.eris_rules.specs.Known.{knows_client, knows_keys}
 use Rattle.eris_rules.specs.Refusals.{abort_cause, cause, deliver_cause, general_cause, is_message, node_cause, noise_cause}
 use Rattle.eris_rules.specs.Worlds.{WorldState, client_at}
-use Rattle.eris_script.specs.declared.event.Event.{Event}
-use Rattle.eris_script.specs.LineForms.{fits_event}
+use Rattle.eris_event.specs.declared.event.Event.{Event}
+use Rattle.eris_event.specs.EventRanges.{fits_event}
 use Rattle.eris_world.specs.WorldValues.{EventFits, HasRoom}
 
 either : (a b : Bool) → (a || b) ≡ true → (a ≡ true) ⊎ (b ≡ true)

@@ -1,7 +1,5 @@
 -- How a world becomes another.
-use Rattle.std.specs.Prelude.{◌≡◌, ◌++◌, None, List, length}
-use Rattle.eris_base.specs.declared.ids.ClientId.{ClientId}
-use Rattle.eris_rules.specs.Happenings.{after_client}
+use Rattle.std.specs.Prelude.{◌≡◌, None}
 use Rattle.eris_rules.specs.Refusals.{limit_met}
 use Rattle.eris_rules.specs.Worlds.{WorldState, with_event, with_sends}
 use Rattle.eris_nodes.specs.ClientRows.{ClientsOut}

@@ -1,7 +1,7 @@
 -- What is told of an event before it happens.
 use Rattle.std.specs.Prelude.{◌≡◌, ⊤, Bool, true, false, Result, Ok, Err, Option, Some, None}
-use Rattle.eris_rules.specs.declared.refusal.Refusal.{Refusal}
-use Rattle.eris_rules.specs.declared.refusal.Refusal.TheVariants as refusals
+use Rattle.eris_event.specs.declared.refusal.Refusal.{Refusal}
+use Rattle.eris_event.specs.declared.refusal.Refusal.TheVariants as refusals
 use Rattle.eris_network.specs.declared.send_fault.SendFault.{SendFault}
 use Rattle.eris_network.specs.declared.send_fault.SendFault.TheVariants as faults
 

@@ -1,7 +1,6 @@
 -- What the parts of a world that isn't spent keep: each is of the world's config and isn't spent either.
 use Rattle.std.specs.Prelude.{◌≡◌, false, None}
 use Rattle.eris_base.specs.ConfigLimits.{ConfigValue}
-use Rattle.eris_client.specs.ClientValues.{ClientValue}
 use Rattle.eris_coord.specs.CoordinatorValues.{CoordinatorValue}
 use Rattle.eris_network.specs.Networks.{NetworkValue}
 use Rattle.eris_nodes.specs.ClientRows.{ClientsValue}

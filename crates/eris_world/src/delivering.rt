@@ -10,10 +10,10 @@ ghost use Rattle.eris_world.specs.WorldValues.{CanGoOn, EventFits};
 
 use crate::world::World;
 use eris_base::{ClientId, Epoch, NoMemory, ReplicaId, ShardId, TxnId};
+use eris_event::Event;
 use eris_network::SendFault;
 use eris_nodes::Act;
 use eris_rules::{CoordInput, ReplicaInput};
-use eris_script::Event;
 use eris_txn::Txn;
 
 impl World {

@@ -12,10 +12,9 @@ ghost use Rattle.eris_world.specs.Checking.{Tells, is_end, refusal_of};
 
 use crate::world::World;
 use eris_base::{ClientId, Epoch, NoMemory, Node, ReplicaId, ShardId, TxnId};
+use eris_event::{Event, Refusal};
 use eris_msg::{DecodeFault, decode};
 use eris_network::SendFault;
-use eris_rules::Refusal;
-use eris_script::Event;
 use eris_txn::{Key, Op};
 use std::alloc::Global;
 

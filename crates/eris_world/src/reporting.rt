@@ -4,9 +4,9 @@ ghost use Rattle.eris_rules.specs.Reports.{all_lines, report_of};
 
 use crate::world::World;
 use eris_base::{Dup, NoMemory, Row};
+use eris_event::{ReplicaLine, Report};
 use eris_nodes::count_of;
 use eris_order_lines::order_lines;
-use eris_script::{ReplicaLine, Report};
 
 impl World {
     /// What there is to tell of the world: its history, the order of its transactions, and its nodes.

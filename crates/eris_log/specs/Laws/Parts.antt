@@ -1,5 +1,5 @@
 -- What the calls of a part keep, and how a part grows.
-use Rattle.std.proofs.Common.{◌≡◌, ◌≤◌, ◌<◌, ℕ, zero, suc, Bool, true, false, ◌&&◌, ◌||◌, ◌==◌, nat_lt, cond, Option, Some, None, is_some, List, [], ◌∷◌, refl, ap, sym, ◌∙◌, subst, arith, ◌⊎◌, inl, inr}
+use Rattle.std.proofs.Common.{◌≡◌, ◌≤◌, ℕ, zero, suc, true, false, ◌||◌, ◌==◌, nat_lt, cond, Option, Some, None, is_some, List, refl, ap, sym, ◌∙◌, subst, arith, ◌⊎◌, inl, inr}
 use Rattle.std.proofs.lemmas.Bool.{cond_both, cond-false, or_left, or_right, eqb-false, lt-ltb, ne_eqb}
 use Rattle.std.specs.List.{AllByRecursion}
 use Rattle.std.specs.Option.{option_or}
@@ -13,7 +13,7 @@ use Rattle.eris_log.specs.Growth.{HasAll, HoldsAll, IsWithin, OfOneShard, Agree}
 use Rattle.eris_log.specs.Held.{packet_at, with_packet, with_packets}
 use Rattle.eris_log.specs.PartFacts.{AreHeld, AreMarks, IsPart}
 use Rattle.eris_log.specs.PartValues.{PartValue}
-use Rattle.eris_log.specs.Parts.{empty_part, hold_at, hold, mark_temp, mark_found, mark_dropped, merge, HasBoth, HoldsBoth, IsUnion}
+use Rattle.eris_log.specs.Parts.{empty_part, hold_at, hold, mark_temp, mark_found, mark_dropped, merge, IsUnion}
 use Rattle.eris_log.specs.Places.{same_place, contains_place, with_place, with_places, places_of}
 use Rattle.eris_log.specs.Laws.Held.{packet_at-with_packet, packet_at-with_packets, AreHeld-with_packet, AreHeld-with_packets, all-with_packet, all-with_packets, with_packets-assoc, with_packets-idem, with_packets-comm}
 use Rattle.eris_log.specs.Laws.Places.{contains_place-with_place, contains_place-with_places, AreMarks-with_place, AreMarks-with_places, AreMarks-places_of, with_places-assoc, with_places-idem, with_places-comm}

@@ -1,6 +1,6 @@
 use Rattle.std.proofs.Common.{◌≡◌, length, true}
 use Rattle.eris_base.specs.Each.{Each}
-use Rattle.eris_msg.specs.Fields as f
+use Rattle.eris_codec.specs.Fields as f
 use Rattle.eris_rules.specs.Known.{knows_keys}
 use Rattle.eris_client.proofs.known.knows_keys.Given as goal
 

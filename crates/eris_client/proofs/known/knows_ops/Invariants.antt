@@ -1,7 +1,7 @@
 use Rattle.std.proofs.Common.{◌≡◌, length, map, true}
 use Rattle.eris_base.specs.Each.{Each}
 use Rattle.eris_txn.specs.Operations.{key_of}
-use Rattle.eris_msg.specs.Fields as f
+use Rattle.eris_codec.specs.Fields as f
 use Rattle.eris_rules.specs.Known.{knows_keys}
 use Rattle.eris_client.proofs.known.knows_ops.Given as goal
 

@@ -1,5 +1,5 @@
 use Rattle.std.proofs.Common.{◌≡◌, ◌++◌, ◌∷◌, [], ℕ}
-use Rattle.eris_script.specs.declared.line.Line.TheVariants.{One}
+use Rattle.eris_grammar.specs.declared.line.Line.TheVariants.{One}
 use Rattle.eris_drill.specs.DrillLines.{below, opening_put}
 use Rattle.eris_drill.proofs.script.put_puts.Given as goal
 

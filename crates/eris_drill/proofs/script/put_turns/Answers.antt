@@ -1,6 +1,6 @@
 use Rattle.std.proofs.Common.{◌++◌, ap, sym, ◌∙◌, List}
 use Rattle.std.proofs.lemmas.List.{append_assoc, append-nil}
-use Rattle.eris_script.specs.declared.line.Line.{Line}
+use Rattle.eris_grammar.specs.declared.line.Line.{Line}
 use Rattle.eris_drill.specs.Draws.{after_words, generator, turn_at, turn_from}
 use Rattle.eris_drill.specs.DrillLines.{below, turn_lines}
 use Rattle.eris_drill.proofs.Turns.{below_more}

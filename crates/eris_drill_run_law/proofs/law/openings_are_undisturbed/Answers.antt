@@ -1,4 +1,4 @@
-use Rattle.eris_undisturbed_law.proofs.Lines.{undisturbed_lines}
+use Rattle.eris_law_script.proofs.Lines.{undisturbed_lines}
 use Rattle.eris_drill.specs.DrillLines.{bank, opening}
 use Rattle.eris_drill_run_law.proofs.Opening.{opening_answered, opening_undisturbed}
 use Rattle.eris_drill_run_law.proofs.law.openings_are_undisturbed.Goals as goal

@@ -1,4 +1,4 @@
-use Rattle.eris_good_law.proofs.Goodness.{good_at, good_front, good_run, good_script, reported_serial}
+use Rattle.eris_good_law.proofs.Goodness.{good_at, good_front, good_run, reported_serial}
 use Rattle.eris_good_law.proofs.law.every_run_is_good.Goals as goal
 
 pub returns-clause-good : goal.returns-clause-good
@@ -9,9 +9,6 @@ returns-clause-front c = good_front
 
 pub returns-clause-moment : goal.returns-clause-moment
 returns-clause-moment c = good_at
-
-pub returns-clause-script : goal.returns-clause-script
-returns-clause-script c = good_script
 
 pub returns-clause-reported : goal.returns-clause-reported
 returns-clause-reported c = reported_serial

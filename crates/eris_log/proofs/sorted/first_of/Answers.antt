@@ -1,4 +1,4 @@
-use Rattle.std.proofs.Common.{◌≡◌, ◌<◌, List, [], length, arith, sym, ◌∙◌, ap}
+use Rattle.std.proofs.Common.{arith, sym}
 use Rattle.eris_log.specs.Laws.Sorted.{front, no_items, starts_left, starts_right, starts_less, starts_equal, starts_greater}
 use Rattle.eris_log.proofs.sorted.first_of.Goals as goal
 

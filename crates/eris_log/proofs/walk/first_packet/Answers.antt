@@ -1,7 +1,7 @@
-use Rattle.std.proofs.Common.{◌≡◌, ◌+◌, ℕ, Some, None, is_some, cond, arith, sym, ap, ◌∙◌}
+use Rattle.std.proofs.Common.{◌+◌, ℕ, Some, None, is_some, cond, arith, sym, ap, ◌∙◌}
 use Rattle.std.proofs.lemmas.Bool.{cond-true, cond-false}
 use Rattle.std.specs.Option.{option_map}
-use Rattle.std.specs.Ordering.{nat_cmp, is_eq}
+use Rattle.std.specs.Ordering.{nat_cmp}
 use Rattle.eris_base.proofs.Orders.{nat_tie}
 use Rattle.eris_txn.specs.declared.packet.Packet.{Packet}
 use Rattle.eris_log.proofs.Walks.{head_at-empty, head_at-first}

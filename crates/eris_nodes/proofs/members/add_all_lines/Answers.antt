@@ -1,6 +1,5 @@
-use Rattle.std.proofs.Common.{◌≡◌, ℕ, sym, ap, ◌∙◌}
-use Rattle.std.proofs.lemmas.List.{append-nil}
-use Rattle.eris_rules.specs.Reports.{replica_line, shard_lines}
+use Rattle.std.proofs.Common.{ℕ, ap, ◌∙◌}
+use Rattle.eris_rules.specs.Reports.{replica_line}
 use Rattle.eris_nodes.proofs.ObserverLaws.{lines-more, no_lines}
 use Rattle.eris_nodes.proofs.members.add_all_lines.Goals as goal
 

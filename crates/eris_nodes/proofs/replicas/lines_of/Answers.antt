@@ -1,4 +1,4 @@
-use Rattle.std.proofs.Common.{◌≡◌, ◌∙◌}
+use Rattle.std.proofs.Common.{◌∙◌}
 use Rattle.eris_nodes.proofs.ObserverLaws.{row_lines-more, no_row_lines}
 use Rattle.eris_nodes.proofs.replicas.lines_of.Goals as goal
 

@@ -1,5 +1,5 @@
 use Rattle.std.proofs.Common.{replicate}
-use Rattle.eris_script.specs.declared.event.Event.TheVariants.{Flow}
+use Rattle.eris_event.specs.declared.event.Event.TheVariants.{Flow}
 use Rattle.eris_run.specs.LineRuns.{Takes}
 use Rattle.eris_run.proofs.line_run.flow.Given as goal
 

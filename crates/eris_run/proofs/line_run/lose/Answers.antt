@@ -1,6 +1,6 @@
 use Rattle.std.proofs.Common.{arith}
 use Rattle.std.proofs.lemmas.Result.{err_from_is_err_and}
-use Rattle.eris_script.specs.declared.event.Event.TheVariants.{Lose}
+use Rattle.eris_event.specs.declared.event.Event.TheVariants.{Lose}
 use Rattle.eris_run.proofs.EventRuns.{losses_rest, refuses_again, takes_again, takes_none}
 use Rattle.eris_run.proofs.line_run.lose.Goals as goal
 

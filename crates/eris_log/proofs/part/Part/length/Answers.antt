@@ -1,7 +1,5 @@
-use Rattle.std.proofs.Common.{◌≡◌, ◌+◌, ℕ, is_some, cond, drop, length, arith, refl, sym, ap, ◌∙◌, subst}
-use Rattle.std.specs.Ordering.{nat_cmp}
+use Rattle.std.proofs.Common.{◌+◌, is_some, cond, drop, length, arith, refl, sym, ap, ◌∙◌, subst}
 use Rattle.eris_base.specs.declared.ids.Place.{Place}
-use Rattle.eris_txn.specs.declared.packet.Packet.{Packet}
 use Rattle.eris_log.specs.Entries.{IsLength, own_place, length_of}
 use Rattle.eris_log.specs.Laws.Entries.{IsLength-length_of}
 use Rattle.eris_log.specs.PartFacts.{IsPart}

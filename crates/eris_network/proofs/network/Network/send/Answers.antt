@@ -1,7 +1,7 @@
 use Rattle.std.proofs.Common.{◌≡◌, ◌≤◌, ◌++◌, List, ap, subst, ◌∙◌, length, arith, Some, None}
 use Rattle.std.proofs.lemmas.List.{length-append}
 use Rattle.eris_msg.specs.declared.outgoing.Outgoing.{Outgoing}
-use Rattle.eris_rules.specs.declared.refusal.Refusal.TheVariants as refusals
+use Rattle.eris_event.specs.declared.refusal.Refusal.TheVariants as refusals
 use Rattle.eris_rules.specs.Refusals.{limit_met}
 use Rattle.eris_network.specs.Limits.{IsMetBy, packet_limit}
 use Rattle.eris_network.specs.Networks.{NetworkValue}

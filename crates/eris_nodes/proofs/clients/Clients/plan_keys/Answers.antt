@@ -3,7 +3,7 @@ use Rattle.std.proofs.lemmas.List.{length-map}
 use Rattle.std.specs.Prelude.{IfSome}
 use Rattle.std.proofs.lemmas.Result.{IfOk-weaker}
 use Rattle.eris_base.specs.declared.ids.TxnId.{TxnId}
-use Rattle.eris_msg.specs.Fields as f
+use Rattle.eris_codec.specs.Fields as f
 use Rattle.eris_client.specs.ClientValues.{ClientValue}
 use Rattle.eris_rules.specs.declared.transaction.Transaction.{Transaction}
 use Rattle.eris_rules.specs.Happenings.{plan_of_transaction}

@@ -1,10 +1,8 @@
-use Rattle.std.proofs.Common.{◌≡◌, false, None, ap, sym, subst, ◌∙◌}
-use Rattle.eris_network.specs.Networks.{NetworkValue}
+use Rattle.std.proofs.Common.{◌≡◌, false, ap, sym, subst, ◌∙◌}
 use Rattle.eris_world.specs.contracts.world.World.{the_view}
-use Rattle.eris_world.specs.WorldValues.{WorldValue}
+use Rattle.eris_world.specs.WorldValues.{WorldValue, IsCause}
 use Rattle.std.proofs.Common.{Bool}
-use Rattle.eris_rules.specs.declared.refusal.Refusal.{Refusal}
-use Rattle.eris_world.specs.WorldValues.{IsCause}
+use Rattle.eris_event.specs.declared.refusal.Refusal.{Refusal}
 use Rattle.eris_world.proofs.Causes.{happened, met_is_cause, told_is_cause}
 use Rattle.eris_world.proofs.world.World.apply.Goals as goal
 

@@ -1,4 +1,4 @@
-use Rattle.std.proofs.Common.{◌≡◌, refl, ap, sym, subst, ◌∙◌}
+use Rattle.std.proofs.Common.{ap, sym, subst, ◌∙◌}
 use Rattle.eris_msg.specs.Spellings.{IsSpelling}
 use Rattle.eris_rules.specs.Refusals.{cause}
 use Rattle.eris_world.specs.WorldValues.{EventFits}

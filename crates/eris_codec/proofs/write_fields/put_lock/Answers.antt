@@ -1,0 +1,8 @@
+use Rattle.std.proofs.Common.{rules, append_assoc}
+use Rattle.std.proofs.lemmas.Result.{IfOk-equal}
+use Rattle.eris_codec.specs.Fields as f
+use Rattle.eris_codec.proofs.write_fields.put_lock.Goals as goal
+
+pub returns : goal.returns
+unfolding f.lock
+returns c = search (rules, IfOk-equal, append_assoc)

@@ -1,0 +1,8 @@
+use Rattle.std.proofs.Common.{rules, append_assoc}
+use Rattle.std.proofs.lemmas.Result.{IfOk-equal}
+use Rattle.eris_codec.specs.Parts as p
+use Rattle.eris_codec.proofs.write_lists.put_held.Goals as goal
+
+pub returns : goal.returns
+unfolding p.held
+returns c = search (rules, IfOk-equal, append_assoc)

@@ -1,0 +1,5 @@
+pub mod Answers
+pub mod Codecs
+pub mod Fields
+pub mod Parts
+pub mod Ranges

@@ -1,0 +1,2 @@
+pub mod EventRanges
+pub mod Limits

@@ -1,0 +1,4 @@
+mod Cuts
+pub mod FrameLaws
+pub mod Streams
+mod Windows

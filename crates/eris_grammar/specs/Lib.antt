@@ -1,0 +1,9 @@
+pub mod EventText
+pub mod Fields
+pub mod FixedWords
+pub mod Headers
+pub mod LineForms
+pub mod OpForms
+pub mod PlanForms
+pub mod Scripts
+pub mod Spelling

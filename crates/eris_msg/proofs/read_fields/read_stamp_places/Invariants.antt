@@ -1,8 +1,0 @@
-use Rattle.std.proofs.Common.{◌≡◌, ◌-◌, []}
-use Rattle.eris_msg.specs.Codecs.{read_items}
-use Rattle.eris_msg.specs.Fields as f
-use Rattle.eris_msg.proofs.Chain.{with_front}
-use Rattle.eris_msg.proofs.read_fields.read_stamp_places.Given as goal
-
-abbrev pub invariant-loop : goal.invariant-loop
-invariant-loop l = with_front l.places (read_items f.stamp_place l.places (l.count - l.counter) l.input) ≡ read_items f.stamp_place [] l.count l.fn.input

@@ -1,8 +1,0 @@
-use Rattle.std.proofs.Common.{rules, append_assoc}
-use Rattle.std.proofs.lemmas.Result.{IfOk-equal}
-use Rattle.eris_msg.specs.Fields as f
-use Rattle.eris_msg.proofs.write_fields.put_write.Goals as goal
-
-pub returns : goal.returns
-unfolding f.write
-returns c = search (rules, IfOk-equal, append_assoc)

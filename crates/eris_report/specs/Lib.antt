@@ -1,0 +1,4 @@
+pub mod HistoryText
+pub mod OrderText
+pub mod ReplicaText
+pub mod ReportText

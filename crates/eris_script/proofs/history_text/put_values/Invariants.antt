@@ -1,7 +1,0 @@
-use Rattle.std.proofs.Common.{◌≡◌, ◌++◌, map, take}
-use Rattle.eris_script.specs.HistoryText.{value_word}
-use Rattle.eris_script.specs.Words.{spaced}
-use Rattle.eris_script.proofs.history_text.put_values.Given as goal
-
-abbrev pub invariant-loop-value : goal.invariant-loop-value
-invariant-loop-value l = l.out ≡ l.fn.out ++ spaced (map value_word (take l.value-index l.values))

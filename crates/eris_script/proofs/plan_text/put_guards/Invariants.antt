@@ -1,8 +1,0 @@
-use Rattle.std.proofs.Common.{◌≡◌, ◌++◌, take}
-use Rattle.std.specs.List.{flat_map}
-use Rattle.eris_script.specs.PlanText.{guard_words}
-use Rattle.eris_script.specs.Words.{spaced}
-use Rattle.eris_script.proofs.plan_text.put_guards.Given as goal
-
-abbrev pub invariant-loop-guard : goal.invariant-loop-guard
-invariant-loop-guard l = l.out ≡ l.fn.out ++ spaced (flat_map guard_words (take l.guard-index l.guards))

@@ -1,8 +1,0 @@
-use Rattle.std.proofs.Common.{◌≡◌, ◌++◌, take}
-use Rattle.std.specs.List.{flat_map}
-use Rattle.eris_script.specs.PlanText.{setting_words}
-use Rattle.eris_script.specs.Words.{spaced}
-use Rattle.eris_script.proofs.plan_text.put_settings.Given as goal
-
-abbrev pub invariant-loop-setting : goal.invariant-loop-setting
-invariant-loop-setting l = l.out ≡ l.fn.out ++ spaced (flat_map setting_words (take l.setting-index l.settings))

@@ -1,8 +1,0 @@
-use Rattle.std.proofs.Common.{◌≡◌, ◌++◌, map, take}
-use Rattle.std.specs.List.{flat_map}
-use Rattle.eris_script.specs.ReplicaText.{replica_words}
-use Rattle.eris_script.specs.Words.{line}
-use Rattle.eris_script.proofs.replica_text.put_replicas.Given as goal
-
-abbrev pub invariant-loop-replica : goal.invariant-loop-replica
-invariant-loop-replica l = l.out ≡ l.fn.out ++ flat_map line (map replica_words (take l.replica-index l.replicas))
