@@ -7,7 +7,7 @@ use Rattle.eris_rules.specs.Good.{Good}
 use Rattle.eris_rules.specs.Reports.{report_of}
 use Rattle.eris_rules.specs.Runs.{run}
 use Rattle.eris_rules.specs.Worlds.{WorldState}
-use Rattle.eris_undisturbed_law.specs.Undisturbed.{AreAnswered}
+use Rattle.eris_law_undisturbed.specs.Undisturbed.{AreAnswered}
 use Rattle.eris_law_script.specs.UndisturbedScripts.{BeginsUndisturbed, IsUndisturbedScript}
 use Rattle.eris_run.specs.Calls.{input_limit}
 

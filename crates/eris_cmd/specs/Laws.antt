@@ -5,7 +5,7 @@ use Rattle.eris_grammar.specs.Scripts.{Script, events_of, script}
 use Rattle.eris_rules.specs.Good.{Good}
 use Rattle.eris_rules.specs.Runs.{run}
 use Rattle.eris_rules.specs.Worlds.{WorldState}
-use Rattle.eris_undisturbed_law.specs.Undisturbed.{AreAnswered}
+use Rattle.eris_law_undisturbed.specs.Undisturbed.{AreAnswered}
 use Rattle.eris_law_script.specs.UndisturbedScripts.{BeginsUndisturbed, IsUndisturbedScript}
 
 -- the world after a script's events is good

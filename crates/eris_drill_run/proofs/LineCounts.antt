@@ -3,7 +3,7 @@ use Rattle.std.proofs.Common.{◌≤◌, ℕ, List, [], ◌∷◌, ◌++◌, len
 use Rattle.eris_grammar.specs.declared.line.Line.{Line}
 use Rattle.eris_drill.specs.DrillLines.{drill_lines}
 use Rattle.eris_drill.specs.DrillText.{drill_text, line_text, lines_text}
-use Rattle.eris_drill_text_law.proofs.DrillSizes.{drill_short}
+use Rattle.eris_law_drill.proofs.DrillSizes.{drill_short}
 
 lines_counted : (said : List Line) → length said ≤ length (lines_text said)
 lines_counted [] = lit≤ tt

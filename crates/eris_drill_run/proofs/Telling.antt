@@ -7,7 +7,7 @@ use Rattle.eris_rules.specs.Worlds.{WorldState}
 use Rattle.eris_drill.specs.DrillLines.{bank}
 use Rattle.eris_drill.specs.DrillText.{drill_text}
 use Rattle.eris_drill.specs.Summaries.{IsTotal, is_submit, values_left}
-use Rattle.eris_drill_law.specs.Reading.{drill_events}
+use Rattle.eris_law_drill.specs.Reading.{drill_events}
 use Rattle.eris_status.specs.declared.due.Due.{Due}
 use Rattle.eris_event.specs.declared.limit.Limit.{Limit}
 use Rattle.eris_status.specs.declared.refused.Refused.{Refused}

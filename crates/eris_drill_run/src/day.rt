@@ -5,9 +5,8 @@ ghost use Rattle.eris_drill_run.specs.Days.{IsDueDay, IsSummaryOf, line_count};
 
 use eris_base::{NoMemory, Row};
 use eris_drill::{drill_lines, drill_script, print_summary, total};
-use eris_drill_outcome_law::drills_end;
-use eris_drill_run_law::{drills_are_taken, drills_keep_their_money};
-use eris_drill_text_law::drills_are_scripts;
+use eris_law_drill::drills_are_scripts;
+use eris_law_drill_run::{drills_are_taken, drills_end, drills_keep_their_money};
 use eris_run::run_bytes;
 use eris_status::{Due, Status, Stop, refuse_line};
 use eris_world::World;

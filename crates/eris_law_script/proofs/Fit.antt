@@ -13,14 +13,14 @@ use Rattle.eris_grammar.specs.Headers.{header_of}
 use Rattle.eris_grammar.specs.LineForms.{line_of}
 use Rattle.eris_grammar.specs.Scripts.{BadLine, Script, events_from, events_of, script, script_in, with_config, with_events}
 use Rattle.eris_grammar.proofs.SpellingLaws.{read_as_spelled}
-use Rattle.eris_course_law.specs.Accepted.{AreEventsFit, IsEventFit}
+use Rattle.eris_law_course.specs.Accepted.{AreEventsFit, IsEventFit}
 use Rattle.std.proofs.Common.{◌≡◌, ℕ, List, ◌++◌, Ok, Some, subst}
 use Rattle.eris_rules.specs.Good.{Good}
 use Rattle.eris_rules.specs.Runs.{run}
 use Rattle.eris_rules.specs.Worlds.{WorldState}
 use Rattle.eris_law_script.proofs.Fit.{script_fits}
-use Rattle.eris_good_law.proofs.Goodness.{good_run}
-use Rattle.eris_good_law.proofs.Ranged.{ranged_fits}
+use Rattle.eris_law_good.proofs.Goodness.{good_run}
+use Rattle.eris_law_good.proofs.Ranged.{ranged_fits}
 
 same_each : (n : ℕ) (one : Event) → IsEventFit one → AreEventsFit (replicate n one)
 same_each zero one h = tt

@@ -15,12 +15,12 @@ use Rattle.eris_grammar.specs.LineForms.{line_of}
 use Rattle.eris_grammar.specs.Scripts.{BadLine, Script, events_from, events_of, script, script_in, with_config, with_events}
 use Rattle.eris_rules.specs.Runs.{run}
 use Rattle.eris_rules.specs.Worlds.{WorldState}
-use Rattle.eris_course_law.specs.Accepted.{AreEventsFit, IsEventFit}
+use Rattle.eris_law_course.specs.Accepted.{AreEventsFit, IsEventFit}
 use Rattle.eris_law_script.proofs.Fit.{script_fits}
-use Rattle.eris_calm_step_law.specs.CalmEvents.{is_calm}
-use Rattle.eris_undisturbed_law.specs.Undisturbed.{AreAnswered, IsUndisturbed}
+use Rattle.eris_law_calm_step.specs.CalmEvents.{is_calm}
+use Rattle.eris_law_undisturbed.specs.Undisturbed.{AreAnswered, IsUndisturbed}
 use Rattle.eris_law_script.specs.UndisturbedScripts.{AreUndisturbed, BeginsUndisturbed, IsText, IsUndisturbedScript, Say, is_calm_line}
-use Rattle.eris_undisturbed_law.proofs.Answered.{first_answers, undisturbed_answers}
+use Rattle.eris_law_undisturbed.proofs.Answered.{first_answers, undisturbed_answers}
 
 -- ---- events of lines
 abbrev said_events : List Line → List Event

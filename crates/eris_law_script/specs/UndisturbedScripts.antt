@@ -8,8 +8,8 @@ use Rattle.eris_words.specs.Cuts.{lines}
 use Rattle.eris_grammar.specs.Headers.{header_of}
 use Rattle.eris_grammar.specs.LineForms.{line_of}
 use Rattle.eris_grammar.specs.Scripts.{events_of}
-use Rattle.eris_calm_step_law.specs.CalmEvents.{is_calm}
-use Rattle.eris_undisturbed_law.specs.Undisturbed.{crashes, packets_for_all}
+use Rattle.eris_law_calm_step.specs.CalmEvents.{is_calm}
+use Rattle.eris_law_undisturbed.specs.Undisturbed.{crashes, packets_for_all}
 
 -- THE LINES of an undisturbed script, behind its header: what says its events, then the deliveries, and then lines
 -- that say nothing

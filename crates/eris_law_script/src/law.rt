@@ -7,8 +7,8 @@ ghost use Rattle.eris_grammar.specs.Scripts.{Script, events_of, script};
 ghost use Rattle.eris_rules.specs.Good.{Good};
 ghost use Rattle.eris_rules.specs.Runs.{run};
 ghost use Rattle.eris_rules.specs.Worlds.{WorldState};
-ghost use Rattle.eris_course_law.specs.Accepted.{AreEventsFit};
-ghost use Rattle.eris_undisturbed_law.specs.Undisturbed.{AreAnswered, IsUndisturbed};
+ghost use Rattle.eris_law_course.specs.Accepted.{AreEventsFit};
+ghost use Rattle.eris_law_undisturbed.specs.Undisturbed.{AreAnswered, IsUndisturbed};
 ghost use Rattle.eris_law_script.specs.UndisturbedScripts.{AreUndisturbed, BeginsUndisturbed, IsUndisturbedScript};
 
 /// What is asked of events holds of all that a script says: the events of each line that is read are fit, and those of a whole

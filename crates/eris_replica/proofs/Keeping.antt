@@ -9,8 +9,8 @@ use Rattle.eris_in_place.proofs.MessageRangeLaws.{message_is_in_range}
 use Rattle.eris_msg.specs.declared.outgoing.Outgoing.{Outgoing}
 use Rattle.eris_codec.specs.Fields as f
 use Rattle.eris_codec.proofs.FieldLaws.{tag_is}
-use Rattle.eris_range_law.specs.Fitting.{ReplicaFits, ReplicaInputFits}
-use Rattle.eris_range_law.proofs.EpochRanges.{first_state_fits, replica_step_fits}
+use Rattle.eris_law_range.specs.Fitting.{ReplicaFits, ReplicaInputFits}
+use Rattle.eris_law_range.proofs.EpochRanges.{first_state_fits, replica_step_fits}
 use Rattle.eris_rules.specs.declared.replica_input.ReplicaInput.{ReplicaInput}
 use Rattle.eris_rules.specs.Known.{knows_shard, knows_replica}
 use Rattle.eris_rules.specs.ReplicaStates.{first_state}

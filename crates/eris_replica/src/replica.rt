@@ -30,7 +30,7 @@ pub struct Replica {
 
 impl Model for Replica {
     ghost use Rattle.std.specs.Prelude.{◌≡◌, false};
-    ghost use Rattle.eris_range_law.specs.Fitting.{ReplicaFits};
+    ghost use Rattle.eris_law_range.specs.Fitting.{ReplicaFits};
     ghost use Rattle.eris_replica.specs.ReplicaValues.{ReplicaValue};
 
     ghost Value = { ReplicaValue };

@@ -20,7 +20,7 @@ use Rattle.eris_txn.specs.Operations.{key_of}
 use Rattle.eris_locks.specs.Law.{HasPacket}
 use Rattle.eris_locks.specs.Shards.{is_on, names_shard, on_shard, cut, cut_body}
 use Rattle.eris_locks.specs.States.{is_conclusory, phase_of}
-use Rattle.eris_lock_law.proofs.SaidFrom.{said_from}
+use Rattle.eris_law_lock.proofs.SaidFrom.{said_from}
 use Rattle.eris_audit.specs.Histories.{txn_of}
 use Rattle.eris_serial.specs.Evidence.{HasOwn, ReadEvidence, RefusalEvidence, SubmitsWell, WholeEvidence}
 use Rattle.eris_serial.specs.Shares.{share}

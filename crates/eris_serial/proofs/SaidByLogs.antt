@@ -13,7 +13,7 @@ use Rattle.eris_locks.specs.Law.{Said}
 use Rattle.eris_locks.specs.LockTable.{run_dones, run_state}
 use Rattle.eris_locks.specs.Shards.{cut, names_shard, on_shard}
 use Rattle.eris_locks.specs.States.{empty}
-use Rattle.eris_lock_law.proofs.Runs.{dones_of_prefix}
+use Rattle.eris_law_lock.proofs.Runs.{dones_of_prefix}
 use Rattle.eris_order.specs.Orders.{packets_on}
 use Rattle.eris_serial.specs.Evidence.{SaidOn}
 

@@ -4,12 +4,12 @@ use Rattle.eris_base.specs.declared.ids.Phase.{Phase}
 use Rattle.eris_base.specs.declared.ids.Phase.TheVariants.{Conclude}
 use Rattle.eris_base.specs.declared.ids.TxnId.{TxnId}
 use Rattle.eris_txn.specs.declared.answer.Answer.{Answer}
-use Rattle.eris_lock_law.proofs.Unrecorded.{conclusion_unrecorded}
+use Rattle.eris_law_lock.proofs.Unrecorded.{conclusion_unrecorded}
 use Rattle.eris_base.specs.Each.{Each}
 use Rattle.eris_base.proofs.Each.{Each-right}
-use Rattle.eris_lock_law.proofs.Ended.{state_after}
-use Rattle.eris_lock_law.proofs.Final.{answers_right, beginning_right, values_right, waiting_none}
-use Rattle.eris_lock_law.proofs.Runs.{dones_of_prefix}
+use Rattle.eris_law_lock.proofs.Ended.{state_after}
+use Rattle.eris_law_lock.proofs.Final.{answers_right, beginning_right, values_right, waiting_none}
+use Rattle.eris_law_lock.proofs.Runs.{dones_of_prefix}
 use Rattle.eris_locks.specs.declared.done.Done.{Done}
 use Rattle.eris_locks.specs.declared.shard_packet.ShardPacket.{ShardPacket}
 use Rattle.eris_locks.specs.Law.{IsRightDone, plain_end}

@@ -25,7 +25,7 @@ use Rattle.eris_msg.specs.Messages.{message}
 use Rattle.eris_msg.specs.Spellings.{IsSpelling}
 use Rattle.eris_msg.proofs.Decodes.{is_only}
 use Rattle.eris_client.specs.ClientRanges.{TxnFits}
-use Rattle.eris_event_ranges.proofs.EventRanges.{ops_are_in_range, plan_is_in_range}
+use Rattle.eris_law_event_range.proofs.EventRanges.{ops_are_in_range, plan_is_in_range}
 use Rattle.eris_nodes.specs.declared.act.Act.{Act}
 use Rattle.eris_nodes.specs.Allowed.{CanActAt}
 use Rattle.eris_event.specs.declared.refusal.Refusal.{Refusal}

@@ -1,5 +1,5 @@
 use Rattle.std.proofs.Common.{sym, subst}
-use Rattle.eris_range_law.specs.Fitting.{ReplicaFits}
+use Rattle.eris_law_range.specs.Fitting.{ReplicaFits}
 use Rattle.eris_replica.specs.ReplicaValues.{EpochsValue}
 use Rattle.eris_replica.proofs.Keeping.{first_fits}
 use Rattle.eris_replica.proofs.replica.Replica.new.Goals as goal

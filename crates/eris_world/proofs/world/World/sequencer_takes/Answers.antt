@@ -5,7 +5,7 @@ use Rattle.eris_world.specs.WorldValues.{WorldValue}
 use Rattle.eris_base.specs.ConfigLimits.{ConfigValue}
 use Rattle.eris_in_place.specs.MessageRanges.{SendsFit}
 use Rattle.eris_sequencer.specs.Asks.{Asked, ask}
-use Rattle.eris_event_ranges.proofs.AskRanges.{asks_are_in_range}
+use Rattle.eris_law_event_range.proofs.AskRanges.{asks_are_in_range}
 use Rattle.eris_world.proofs.Steps.{sequencer_err, sequencer_ok}
 use Rattle.eris_world.proofs.world.World.sequencer_takes.Goals as goal
 

@@ -1,8 +1,0 @@
-use Rattle.eris_client_law.proofs.Evident.{event_counted, history_counted}
-use Rattle.eris_client_law.proofs.law.counted_is_evidence.Goals as goal
-
-pub returns-clause-counted : goal.returns-clause-counted
-returns-clause-counted c = event_counted
-
-pub returns-clause-all : goal.returns-clause-all
-returns-clause-all c = history_counted

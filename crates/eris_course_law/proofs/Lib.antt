@@ -1,6 +1,0 @@
-pub mod ServerSends
-pub mod Actions
-pub mod Calls
-pub mod Courses
-pub mod Merged
-pub mod Delivered

@@ -1,6 +1,0 @@
-//! The laws of the drill: what its script says, and that the accounts of its bank have 16000 together after any run.
-#![tactic(auto)]
-
-mod law;
-
-pub use law::{days_keep_the_sum, drills_are_read, serial_orders_are_days};

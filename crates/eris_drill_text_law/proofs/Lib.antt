@@ -1,4 +1,0 @@
-pub mod Below
-pub mod LineBytes
-pub mod DrillScripts
-pub mod DrillSizes

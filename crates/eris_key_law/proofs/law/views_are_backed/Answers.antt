@@ -1,5 +1,0 @@
-use Rattle.eris_key_law.proofs.Views.{above_zero}
-use Rattle.eris_key_law.proofs.law.views_are_backed.Goals as goal
-
-pub returns : goal.returns
-returns c = record { backed = above_zero }

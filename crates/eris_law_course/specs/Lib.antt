@@ -1,0 +1,4 @@
+pub mod Inputs
+pub mod Accepted
+pub mod Submitted
+pub mod Asked

@@ -1,0 +1,12 @@
+pub mod Worths
+pub mod Transfers
+pub mod Days
+pub mod Totals
+pub mod Splitting
+pub mod Serials
+pub mod Fitting
+pub mod ReadLines
+pub mod Below
+pub mod LineBytes
+pub mod DrillScripts
+pub mod DrillSizes

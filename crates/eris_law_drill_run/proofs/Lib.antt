@@ -1,0 +1,12 @@
+pub mod ClientSteps
+pub mod QuietEvents
+pub mod Standing
+pub mod Carrying
+pub mod Causes
+pub mod DrillRuns
+pub mod Histories
+pub mod BankDays
+pub mod Taken
+pub mod Opening
+pub mod Money
+pub mod Outcomes

@@ -1,0 +1,7 @@
+pub mod AnswerRanges
+pub mod EpochRanges
+pub mod PartRanges
+pub mod RowRanges
+pub mod SendRanges
+pub mod SettlingRanges
+pub mod ViewRanges

@@ -1,8 +1,0 @@
-use Rattle.eris_order_law.proofs.LaterStamps.{closed_back, later_epoch}
-use Rattle.eris_order_law.proofs.law.left_epochs_are_done.Goals as goal
-
-pub returns-clause-closed : goal.returns-clause-closed
-returns-clause-closed c = closed_back
-
-pub returns-clause-later : goal.returns-clause-later
-returns-clause-later c = later_epoch

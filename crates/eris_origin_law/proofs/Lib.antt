@@ -1,2 +1,0 @@
-pub mod NewStamps
-pub mod Packets

@@ -1,6 +1,0 @@
-pub mod EpochRanges
-pub mod PartRanges
-pub mod RowRanges
-pub mod SendRanges
-pub mod SettlingRanges
-pub mod ViewRanges

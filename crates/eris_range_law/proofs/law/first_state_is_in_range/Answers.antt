@@ -1,5 +1,0 @@
-use Rattle.eris_range_law.proofs.EpochRanges.{first_state_fits}
-use Rattle.eris_range_law.proofs.law.first_state_is_in_range.Goals as goal
-
-pub returns : goal.returns
-returns c = first_state_fits

@@ -1,5 +1,0 @@
-use Rattle.eris_range_law.proofs.EpochRanges.{replica_step_fits}
-use Rattle.eris_range_law.proofs.law.replica_stays_in_range.Goals as goal
-
-pub returns : goal.returns
-returns c = replica_step_fits
