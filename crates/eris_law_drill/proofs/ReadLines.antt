@@ -11,10 +11,10 @@ use Rattle.eris_grammar.specs.declared.line.Line.{Line}
 use Rattle.eris_grammar.specs.declared.line.Line.TheVariants.{One, Flow, Lose}
 use Rattle.eris_words.specs.declared.reason.Reason.{Reason}
 use Rattle.eris_words.specs.Decimal.{decimal}
-use Rattle.eris_grammar.specs.Fields.{count, number, replica, two_numbers}
+use Rattle.eris_grammar.specs.Fields.{count, number}
 use Rattle.eris_words.specs.Cuts.{words}
 use Rattle.eris_grammar.specs.Headers.{header_of}
-use Rattle.eris_event.specs.EventRanges.{fits_event, fits_count}
+use Rattle.eris_event.specs.EventRanges.{fits_event, fits_count, fits_replica}
 use Rattle.eris_grammar.specs.LineForms.{line_saying}
 use Rattle.eris_grammar.proofs.FieldLaws.{is_count}
 use Rattle.eris_grammar.proofs.SpellingLaws.{event_back, read_as_spelled}
@@ -100,8 +100,7 @@ weather_read turn = by_weather (turn.weather == 0)
     by_weather true = (flow_read 5 (lit< tt), (lose_read 1 (lit< tt), (flow_read 60 (lit< tt), tt)))
     by_weather false = (flow_read 60 (lit< tt), tt)
 
-timer_fits : (shard at : ℕ) → shard < 4 → at < 3 → (replica 1).fits (record { 0 = shard }, record { 0 = at }) ≡ true
-unfolding replica two_numbers
+timer_fits : (shard at : ℕ) → shard < 4 → at < 3 → fits_replica (record { 0 = shard }) (record { 0 = at }) ≡ true
 timer_fits shard at few low = and_from _ _ (shard_fits shard few) (at_fits at low)
   where
     shard_fits : (n : ℕ) → n < 4 → nat_le n 255 ≡ true
