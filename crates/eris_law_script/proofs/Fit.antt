@@ -1,5 +1,5 @@
 -- WHAT A SCRIPT SAYS IS FIT, since each line is read as an event in the ranges of events; so whatever the script, its run is good.
-use Rattle.std.proofs.Common.{◌≡◌, ℕ, zero, suc, ◌+◌, List, [], ◌∷◌, ◌++◌, Ok, Err, Result, replicate, refl, subst}
+use Rattle.std.proofs.Common.{◌≡◌, ℕ, zero, suc, ◌+◌, List, [], ◌∷◌, ◌++◌, Ok, Err, Some, Result, replicate, refl, subst}
 use Rattle.eris_base.specs.ConfigLimits.{ConfigValue}
 use Rattle.eris_base.proofs.Each.{Each-append}
 use Rattle.eris_event.specs.declared.event.Event.{Event}
@@ -14,11 +14,9 @@ use Rattle.eris_grammar.specs.LineForms.{line_of}
 use Rattle.eris_grammar.specs.Scripts.{BadLine, Script, events_from, events_of, script, script_in, with_config, with_events}
 use Rattle.eris_grammar.proofs.SpellingLaws.{read_as_spelled}
 use Rattle.eris_law_course.specs.Accepted.{AreEventsFit, IsEventFit}
-use Rattle.std.proofs.Common.{◌≡◌, ℕ, List, ◌++◌, Ok, Some, subst}
 use Rattle.eris_rules.specs.Good.{Good}
 use Rattle.eris_rules.specs.Runs.{run}
 use Rattle.eris_rules.specs.Worlds.{WorldState}
-use Rattle.eris_law_script.proofs.Fit.{script_fits}
 use Rattle.eris_law_good.proofs.Goodness.{good_run}
 use Rattle.eris_law_good.proofs.Ranged.{ranged_fits}
 
