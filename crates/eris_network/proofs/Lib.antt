@@ -2,4 +2,5 @@ mod AddLaws
 mod CountedLaws
 mod KeptLaws
 mod LimitLaws
+mod NetworkLaws
 mod WaitingLaws

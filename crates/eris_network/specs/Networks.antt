@@ -1,8 +1,9 @@
 -- What a network is to contracts.
-use Rattle.std.specs.Prelude.{⊤, ℕ, Bool, Option, Some, None, List, option_map, slice_get}
+use Rattle.std.specs.Prelude.{⊤, ℕ, ◌==◌, not, Bool, Option, Some, None, List, length, option_map, slice_get}
 use Rattle.eris_msg.specs.declared.outgoing.Outgoing.{Outgoing}
 use Rattle.eris_frame.specs.Frames.{frame}
 use Rattle.eris_msg.specs.Spellings.{IsSpelling, spelling}
+use Rattle.eris_network.specs.WaitingNumbers.{WaitingValue}
 
 -- every message that was ever sent, in order of sending; the numbers of those that wait, ascending; and whether
 -- it is spent
@@ -10,6 +11,10 @@ pub record NetworkValue : Type 0 where
   pub sent : List Outgoing
   pub waiting : List ℕ
   pub spent : Bool
+
+-- it is spent where it doesn't have a number for each message
+abbrev pub network_of : List Outgoing → WaitingValue → NetworkValue
+network_of sent waiting = record { sent = sent; waiting = waiting.numbers; spent = not (waiting.count == length sent) }
 
 -- the frame of the spelling of the sent message of a number
 abbrev pub frame_at : List Outgoing → ℕ → Option (List ℕ)

@@ -1,4 +1,4 @@
-ghost use Rattle.std.specs.Prelude.{◌≡◌, ◌<◌, ◌++◌, ◌==◌, [], not, None, Some, false, true, length, slice_get, option_map, OnOk, OnErr, IfOk, IfErr, IfSome};
+ghost use Rattle.std.specs.Prelude.{◌≡◌, ◌<◌, ◌++◌, ◌==◌, [], not, None, Some, false, true, length, slice_get, option_map, OnOk, IfOk, IfErr, IfSome};
 ghost use Rattle.std.specs.List.{filter, range_with_len};
 ghost use Rattle.eris_in_place.specs.MessageRanges.{SendsFit};
 ghost use Rattle.eris_msg.specs.Spellings.{message_fits};
@@ -20,18 +20,14 @@ use std::marker::Model;
 pub struct Network {
     frames: Frames,
     waiting: Waiting,
-    spent: bool,
 }
 
 impl Model for Network {
-    ghost use Rattle.std.specs.Prelude.{◌≡◌, false, length};
-    ghost use Rattle.eris_network.specs.Networks.{NetworkValue};
+    ghost use Rattle.eris_network.specs.Networks.{NetworkValue, network_of};
 
     ghost Value = { NetworkValue };
 
-    ghost view = { λ n. record { sent = n.frames; waiting = n.waiting.numbers; spent = n.spent } };
-
-    ghost invariant = { λ n. n.spent ≡ false → n.waiting.count ≡ length n.frames };
+    ghost view = { λ n. network_of n.frames n.waiting };
 }
 
 impl Network {
@@ -42,15 +38,7 @@ impl Network {
         Network {
             frames: Frames::new(alloc),
             waiting: Waiting::new(alloc),
-            spent: false,
         }
-    }
-
-    /// Whether a call of [`send`](Network::send) failed. Nothing else may be called then.
-    pub fn is_spent(&self) -> bool
-        ensures { result ≡ self.now.spent }
-    {
-        self.spent
     }
 
     /// How many messages were sent. It takes no memory.
@@ -120,7 +108,7 @@ impl Network {
     /// # Errors
     ///
     /// `Packets` exactly where the sent packets would be more than 262,144, else `Bytes` exactly where
-    /// their frames would have more than 67,108,864 bytes. After an error the network is spent.
+    /// their frames would have more than 67,108,864 bytes. After an error nothing is known of the network.
     pub fn send(&mut self, sends: &[Outgoing]) -> Result<(), SendFault>
         requires spent { self.old.spent ≡ false }
         requires fits { SendsFit sends.now }
@@ -130,9 +118,7 @@ impl Network {
         }) }
         ensures room { OnOk result (limit_met (self.old.sent ++ sends.now) ≡ None) }
         ensures err { IfErr result (IsMetBy (self.old.sent ++ sends.now)) }
-        ensures spent { OnErr result (self.new.spent ≡ true) }
     {
-        self.spent = true;
         if sends.len() > PACKET_LIMIT - self.frames.len() {
             return Err(SendFault::Packets);
         }
@@ -143,7 +129,6 @@ impl Network {
         // Its contract tells that they are within the limits.
         let _sent = self.frames.len();
         self.waiting.add_all(sends.len())?;
-        self.spent = false;
         Ok(())
     }
 }

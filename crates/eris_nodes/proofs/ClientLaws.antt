@@ -1,8 +1,8 @@
 -- All clients: how they are made, and what an act of one of them changes.
-use Rattle.std.proofs.Common.{◌≡◌, ◌<◌, ◌≤◌, ℕ, zero, suc, ◌+◌, false, List, [], ◌∷◌, ◌++◌, length, replicate, get_or, Option, Some, None, refl, ap, sym, subst, ◌∙◌, arith, add-one}
-use Rattle.std.specs.Prelude.{slice_set, option_map}
+use Rattle.std.proofs.Common.{◌≡◌, ◌<◌, ◌≤◌, ◌||◌, ℕ, zero, suc, ◌+◌, Bool, true, false, List, [], ◌∷◌, ◌++◌, length, replicate, get_or, Option, Some, None, Result, Ok, Err, refl, ap, sym, subst, ◌∙◌, arith, add-one}
+use Rattle.std.specs.Prelude.{slice_set, option_map, IfOk, OnErr, OnOk}
 use Rattle.std.proofs.lemmas.Option.{slice_get-map, slice_get-get_or, slice_get_past}
-use Rattle.std.proofs.lemmas.List.{map-append}
+use Rattle.std.proofs.lemmas.List.{map-append, set-get_or}
 use Rattle.eris_base.specs.declared.ids.ClientId.{ClientId}
 use Rattle.eris_base.specs.declared.ids.TxnId.{TxnId}
 use Rattle.eris_base.specs.ConfigLimits.{ConfigValue}
@@ -13,7 +13,8 @@ use Rattle.eris_rules.specs.ClientStates.{ClientIdentity, ClientOut, ClientState
 use Rattle.eris_rules.specs.Clients.{own_id}
 use Rattle.eris_rules.specs.Happenings.{transaction_of}
 use Rattle.eris_rules.specs.Worlds.{client_at}
-use Rattle.eris_nodes.specs.ClientRows.{AreClients, ClientsOut, IsClient, after_act, client_of, clients_act, one_acts, states_of, transaction_in}
+use Rattle.eris_nodes.specs.ClientRows.{AreClients, ClientsOut, ClientsValue, IsClient, after_act, any_spent, client_of, clients_act, one_acts, states_of, transaction_in}
+use Rattle.eris_nodes.proofs.AnyLaws.{any_set}
 use Rattle.eris_nodes.proofs.MemberLaws.{replicate-more}
 
 AreClients-more : (config : ConfigValue) (from : ℕ) (clients : List ClientValue) (one : ClientValue) → AreClients config from clients → IsClient config (from + length clients) one → AreClients config from (clients ++ one ∷ [])
@@ -47,6 +48,12 @@ pub clients_stay : (clients : List ClientValue) (i : ℕ) (one next : ClientValu
 clients_stay [] i one next e k = refl
 clients_stay (first ∷ clients) zero one next e k = ap (λ (state : ClientState). state ∷ states_of clients) (k ∙ ap (λ (z : ClientValue). z.state) e)
 clients_stay (first ∷ clients) (suc i) one next e k = ap (λ (states : List ClientState). first.state ∷ states) (clients_stay clients i one next e k)
+
+pub clients_noise : {E : Type 0} (r : Result (List Outgoing × Option HistoryEvent) E) (clients : List ClientValue) (i : ℕ) (one next : ClientValue) (states : List ClientState) → one ≡ get_or clients i one
+    → states_of clients ≡ states → IfOk r (λ out. (out.0 ≡ []) × (out.1 ≡ None) × (next.state ≡ one.state))
+    → IfOk r (λ out. (out.0 ≡ []) × (out.1 ≡ None) × (states_of (slice_set clients i next) ≡ states))
+clients_noise (Ok out) clients i one next states e view h = (h.0, h.1, clients_stay clients i one next e h.2 ∙ view)
+clients_noise (Err fault) clients i one next states e view h = tt
 
 pub found_at : (clients : List ClientValue) (client : ClientId) (one : ClientValue) → client.0 < length clients → one ≡ get_or clients client.0 one → client_at (states_of clients) client ≡ Some one.state
 unfolding client_at
@@ -107,3 +114,48 @@ first_clients-more config clients items one n e len h k =
 
 pub clients_set : (config : ConfigValue) (clients : List ClientValue) → AreClients config 0 clients → (i : ℕ) (next : ClientValue) → IsClient config i next → AreClients config 0 (slice_set clients i next)
 clients_set config clients h i next k = AreClients-set config 0 clients h i next (subst (λ n. IsClient config n next) (omega arith) k)
+
+-- ---- which are spent
+pub none_spent : (config : ConfigValue) (from : ℕ) (clients : List ClientValue) → AreClients config from clients → any_spent clients ≡ false
+none_spent config from [] h = refl
+none_spent config from (one ∷ clients) h = ap (λ (z : Bool). z || any_spent clients) h.0.unspent ∙ none_spent config (from + 1) clients h.1
+
+pub spent_after : (clients : List ClientValue) (i : ℕ) (next : ClientValue) → any_spent clients ≡ false → i < length clients → any_spent (slice_set clients i next) ≡ next.spent
+spent_after clients i next none lt = any_set (λ (one : ClientValue). one.spent) clients i next none lt
+
+-- what is spent need not be as it was
+pub spent_alone : (one next : ClientValue) → next.spent ≡ true → next.spent ≡ false → next ≡ one
+spent_alone one next spent k = absurd cc
+
+-- an act of one leaves them as they are to be, or that one spent
+pub clients_after : {T E : Type 0} (r : Result T E) (config : ConfigValue) (clients : List ClientValue) (i : ℕ) (one next : ClientValue)
+    → AreClients config 0 clients → any_spent clients ≡ false → i < length clients → one ≡ get_or clients i one
+    → OnOk r (next ≡ record one { state = next.state }) → OnErr r (next.spent ≡ false → next ≡ one)
+    → any_spent (slice_set clients i next) ≡ false → AreClients config 0 (slice_set clients i next)
+clients_after (Ok done) config clients i one next h none lt e stays same k =
+    clients_set config clients h i next (is_client_after config i one next (client_at-is config clients i one h lt e) stays)
+clients_after (Err fault) config clients i one next h none lt e stays same k =
+    clients_set config clients h i next
+    (subst (λ (z : ClientValue). IsClient config i z) (sym (same (sym (spent_after clients i next none lt) ∙ k))) (client_at-is config clients i one h lt e))
+
+-- what contracts see of them stays but for the states, unless that one is spent
+pub value_after : (config : ConfigValue) (clients : List ClientValue) (old : ClientsValue) (i : ℕ) (one next : ClientValue)
+    → ◌≡◌ {A = ClientsValue} (record { config = config; states = states_of clients; spent = any_spent clients }) old
+    → AreClients config 0 clients → any_spent clients ≡ false → i < length clients → one ≡ get_or clients i one → next ≡ record one { state = next.state }
+    → ◌≡◌ {A = ClientsValue} (record { config = config; states = states_of (slice_set clients i next); spent = any_spent (slice_set clients i next) })
+    (record old { states = states_of (slice_set clients i next) })
+value_after config clients old i one next view h none lt e stays =
+    let same : any_spent (slice_set clients i next) ≡ any_spent clients =
+    spent_after clients i next none lt ∙ (is_client_after config i one next (client_at-is config clients i one h lt e) stays).unspent ∙ sym none in
+    ap (λ (z : Bool). let made : ClientsValue = record { config = config; states = states_of (slice_set clients i next); spent = z } in made) same
+    ∙ ap (λ (v : ClientsValue). let made : ClientsValue = record v { states = states_of (slice_set clients i next) } in made) view
+
+-- where one that isn't spent is as it was, all are
+pub value_before : (config : ConfigValue) (clients : List ClientValue) (old : ClientsValue) (i : ℕ) (one next : ClientValue)
+    → ◌≡◌ {A = ClientsValue} (record { config = config; states = states_of clients; spent = any_spent clients }) old
+    → any_spent clients ≡ false → i < length clients → one ≡ get_or clients i one → (next.spent ≡ false → next ≡ one) → any_spent (slice_set clients i next) ≡ false
+    → ◌≡◌ {A = ClientsValue} (record { config = config; states = states_of (slice_set clients i next); spent = any_spent (slice_set clients i next) }) old
+value_before config clients old i one next view none lt e same k =
+    let as_it_was : next ≡ one = same (sym (spent_after clients i next none lt) ∙ k) in
+    let back : slice_set clients i next ≡ clients = ap (slice_set clients i) (as_it_was ∙ e) ∙ set-get_or clients i one in
+    ap (λ (z : List ClientValue). let made : ClientsValue = record { config = config; states = states_of z; spent = any_spent z } in made) back ∙ view

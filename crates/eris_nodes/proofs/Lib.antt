@@ -1,3 +1,4 @@
+mod AnyLaws
 mod ClientLaws
 mod MemberLaws
 mod ObserverLaws

@@ -1,6 +1,6 @@
 -- The replicas of one shard: how they are made, and what a step of one of them changes.
-use Rattle.std.proofs.Common.{◌≡◌, ◌<◌, ◌≤◌, ℕ, zero, suc, ◌+◌, List, [], ◌∷◌, ◌++◌, length, replicate, get_or, Option, Some, refl, ap, sym, subst, ◌∙◌, arith, add-one, false}
-use Rattle.std.specs.Prelude.{slice_get, slice_set, option_map}
+use Rattle.std.proofs.Common.{◌≡◌, ◌<◌, ◌≤◌, ◌||◌, ℕ, zero, suc, ◌+◌, Bool, true, false, List, [], ◌∷◌, ◌++◌, length, replicate, get_or, Option, Some, Result, Ok, Err, refl, ap, sym, subst, ◌∙◌, arith, add-one}
+use Rattle.std.specs.Prelude.{slice_get, slice_set, option_map, IfOk, OnErr, OnOk}
 use Rattle.std.proofs.lemmas.Option.{slice_get-map, slice_get-get_or, slice_get_past}
 use Rattle.std.proofs.lemmas.List.{map-append}
 use Rattle.eris_base.specs.declared.ids.ShardId.{ShardId}
@@ -10,7 +10,8 @@ use Rattle.eris_replica.specs.ReplicaValues.{ReplicaValue}
 use Rattle.eris_rules.specs.declared.replica_input.ReplicaInput.{ReplicaInput}
 use Rattle.eris_rules.specs.Replicas.{replica_step}
 use Rattle.eris_rules.specs.ReplicaStates.{Identity, ReplicaState, ReplicaOut, first_state}
-use Rattle.eris_nodes.specs.MemberRows.{MembersOut, AreMembers, IsMember, after_one, identity, members_step, one_steps, states_of}
+use Rattle.eris_nodes.specs.MemberRows.{MembersOut, MembersValue, AreMembers, IsMember, after_one, any_spent, identity, members_step, one_steps, states_of}
+use Rattle.eris_nodes.proofs.AnyLaws.{any_set}
 
 pub replicate-more : {X : Type 0} (n : ℕ) (x : X) → replicate (suc n) x ≡ replicate n x ++ x ∷ []
 replicate-more zero x = refl
@@ -46,6 +47,11 @@ pub members_stay : (members : List ReplicaValue) (i : ℕ) (one next : ReplicaVa
 members_stay [] i one next e k = refl
 members_stay (first ∷ members) zero one next e k = ap (λ state. state ∷ states_of members) (k ∙ ap (λ (z : ReplicaValue). z.state) e)
 members_stay (first ∷ members) (suc i) one next e k = ap (λ states. first.state ∷ states) (members_stay members i one next e k)
+
+pub members_noise : {E : Type 0} (r : Result (List Outgoing) E) (members : List ReplicaValue) (i : ℕ) (one next : ReplicaValue) (states : List ReplicaState) → one ≡ get_or members i one
+    → states_of members ≡ states → IfOk r (λ sends. (sends ≡ []) × (next.state ≡ one.state)) → IfOk r (λ sends. (sends ≡ []) × (states_of (slice_set members i next) ≡ states))
+members_noise (Ok sends) members i one next states e view h = (h.0, members_stay members i one next e h.1 ∙ view)
+members_noise (Err fault) members i one next states e view h = tt
 
 -- the member of an index is itself, and unspent
 pub member_at : (config : ConfigValue) (shard : ShardId) (members : List ReplicaValue) (i : ℕ) (one : ReplicaValue) → AreMembers config shard 0 members
@@ -104,3 +110,34 @@ first_members-more config shard members items one n e len h k =
 pub members_set : (config : ConfigValue) (shard : ShardId) (members : List ReplicaValue) → AreMembers config shard 0 members → (i : ℕ) (next : ReplicaValue)
     → IsMember config shard i next → AreMembers config shard 0 (slice_set members i next)
 members_set config shard members h i next k = AreMembers-set config shard 0 members h i next (subst (λ n. IsMember config shard n next) (omega arith) k)
+
+-- ---- which are spent
+pub none_spent : (config : ConfigValue) (shard : ShardId) (from : ℕ) (members : List ReplicaValue) → AreMembers config shard from members → any_spent members ≡ false
+none_spent config shard from [] h = refl
+none_spent config shard from (one ∷ members) h = ap (λ (z : Bool). z || any_spent members) h.0.unspent ∙ none_spent config shard (from + 1) members h.1
+
+pub spent_after : (members : List ReplicaValue) (i : ℕ) (next : ReplicaValue) → any_spent members ≡ false → i < length members → any_spent (slice_set members i next) ≡ next.spent
+spent_after members i next none lt = any_set (λ (one : ReplicaValue). one.spent) members i next none lt
+
+-- a step of one leaves them as they are to be, or that one spent
+pub members_after : {T E : Type 0} (r : Result T E) (config : ConfigValue) (shard : ShardId) (members : List ReplicaValue) (i : ℕ) (one next : ReplicaValue)
+    → AreMembers config shard 0 members → any_spent members ≡ false → i < length members → one ≡ get_or members i one
+    → OnOk r (next ≡ record one { state = next.state }) → OnErr r (next.spent ≡ true)
+    → any_spent (slice_set members i next) ≡ false → AreMembers config shard 0 (slice_set members i next)
+members_after (Ok done) config shard members i one next h none lt e stays spent k =
+    members_set config shard members h i next (is_member_after config shard i one next (member_at config shard members i one h lt e) stays)
+members_after (Err fault) config shard members i one next h none lt e stays spent k =
+    let same : any_spent (slice_set members i next) ≡ next.spent = spent_after members i next none lt in
+    absurd cc
+
+-- what contracts see of them stays but for the states, unless that one is spent
+pub value_after : (config : ConfigValue) (shard : ShardId) (members : List ReplicaValue) (old : MembersValue) (i : ℕ) (one next : ReplicaValue)
+    → ◌≡◌ {A = MembersValue} (record { config = config; shard = shard; states = states_of members; spent = any_spent members }) old
+    → AreMembers config shard 0 members → any_spent members ≡ false → i < length members → one ≡ get_or members i one → next ≡ record one { state = next.state }
+    → ◌≡◌ {A = MembersValue} (record { config = config; shard = shard; states = states_of (slice_set members i next); spent = any_spent (slice_set members i next) })
+    (record old { states = states_of (slice_set members i next) })
+value_after config shard members old i one next view h none lt e stays =
+    let same : any_spent (slice_set members i next) ≡ any_spent members =
+    spent_after members i next none lt ∙ (is_member_after config shard i one next (member_at config shard members i one h lt e) stays).unspent ∙ sym none in
+    ap (λ (z : Bool). let made : MembersValue = record { config = config; shard = shard; states = states_of (slice_set members i next); spent = z } in made) same
+    ∙ ap (λ (v : MembersValue). let made : MembersValue = record v { states = states_of (slice_set members i next) } in made) view

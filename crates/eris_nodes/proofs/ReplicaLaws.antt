@@ -1,6 +1,6 @@
 -- The replicas of all shards: how they are made, and what a step of one of them changes.
-use Rattle.std.proofs.Common.{◌≡◌, ◌<◌, ◌≤◌, ℕ, zero, suc, ◌+◌, false, List, [], ◌∷◌, ◌++◌, length, map, get_or, Option, Some, None, refl, ap, sym, subst, ◌∙◌, arith}
-use Rattle.std.specs.Prelude.{slice_get, slice_set, option_map}
+use Rattle.std.proofs.Common.{◌≡◌, ◌<◌, ◌≤◌, ◌||◌, ℕ, zero, suc, ◌+◌, Bool, true, false, List, [], ◌∷◌, ◌++◌, length, map, get_or, Option, Some, None, Result, Ok, Err, refl, ap, sym, subst, ◌∙◌, arith}
+use Rattle.std.specs.Prelude.{slice_get, slice_set, option_map, IfOk, OnErr, OnOk}
 use Rattle.std.specs.List.{range_with_len}
 use Rattle.std.proofs.lemmas.Option.{slice_get-map, slice_get-get_or, slice_get_past}
 use Rattle.std.proofs.lemmas.List.{map-append}
@@ -14,7 +14,8 @@ use Rattle.eris_rules.specs.Replicas.{replica_step}
 use Rattle.eris_rules.specs.ReplicaStates.{ReplicaState, ReplicaOut}
 use Rattle.eris_rules.specs.Worlds.{first_replicas, in_row, replica_at, with_in_row, with_replica}
 use Rattle.eris_nodes.specs.MemberRows.{MembersOut, MembersValue, identity, members_step, one_steps}
-use Rattle.eris_nodes.specs.ReplicaRows.{AreRows, IsRow, ReplicasOut, one_of_all_steps, replicas_step, row_of_shard, rows_of}
+use Rattle.eris_nodes.specs.ReplicaRows.{AreRows, IsRow, ReplicasOut, ReplicasValue, any_spent, one_of_all_steps, replicas_step, row_of_shard, rows_of}
+use Rattle.eris_nodes.proofs.AnyLaws.{any_set}
 
 AreRows-more : (config : ConfigValue) (from : ℕ) (rows : List MembersValue) (row : MembersValue) → AreRows config from rows → IsRow config (from + length rows) row → AreRows config from (rows ++ row ∷ [])
 AreRows-more config from [] row h k = (subst (λ n. IsRow config n row) (omega arith) k, tt)
@@ -52,6 +53,11 @@ pub rows_stay : (rows : List MembersValue) (i : ℕ) (row next : MembersValue) �
 rows_stay [] i row next e k = refl
 rows_stay (first ∷ rows) zero row next e k = ap (λ (states : List ReplicaState). states ∷ rows_of rows) (k ∙ ap (λ (z : MembersValue). z.states) e)
 rows_stay (first ∷ rows) (suc i) row next e k = ap (λ (states : List (List ReplicaState)). first.states ∷ states) (rows_stay rows i row next e k)
+
+pub rows_noise : {E : Type 0} (r : Result (List Outgoing) E) (rows : List MembersValue) (i : ℕ) (row next : MembersValue) (states : List (List ReplicaState)) → row ≡ get_or rows i row
+    → rows_of rows ≡ states → IfOk r (λ sends. (sends ≡ []) × (next.states ≡ row.states)) → IfOk r (λ sends. (sends ≡ []) × (rows_of (slice_set rows i next) ≡ states))
+rows_noise (Ok sends) rows i row next states e view h = (h.0, rows_stay rows i row next e h.1 ∙ view)
+rows_noise (Err fault) rows i row next states e view h = tt
 
 set_same : (rows : List (List ReplicaState)) (i : ℕ) (states : List ReplicaState) → slice_get rows i ≡ Some states → slice_set rows i states ≡ rows
 set_same [] i states h = refl
@@ -117,3 +123,33 @@ are_rows-more config rows items row n e len h k =
 
 pub rows_set : (config : ConfigValue) (rows : List MembersValue) → AreRows config 0 rows → (i : ℕ) (next : MembersValue) → IsRow config i next → AreRows config 0 (slice_set rows i next)
 rows_set config rows h i next k = AreRows-set config 0 rows h i next (subst (λ n. IsRow config n next) (omega arith) k)
+
+-- ---- which are spent
+pub none_spent : (config : ConfigValue) (from : ℕ) (rows : List MembersValue) → AreRows config from rows → any_spent rows ≡ false
+none_spent config from [] h = refl
+none_spent config from (row ∷ rows) h = ap (λ (z : Bool). z || any_spent rows) h.0.unspent ∙ none_spent config (from + 1) rows h.1
+
+pub spent_after : (rows : List MembersValue) (i : ℕ) (next : MembersValue) → any_spent rows ≡ false → i < length rows → any_spent (slice_set rows i next) ≡ next.spent
+spent_after rows i next none lt = any_set (λ (row : MembersValue). row.spent) rows i next none lt
+
+-- a step in a shard leaves them as they are to be, or that shard's spent
+pub rows_after : {T E : Type 0} (r : Result T E) (config : ConfigValue) (rows : List MembersValue) (i : ℕ) (row next : MembersValue)
+    → AreRows config 0 rows → any_spent rows ≡ false → i < length rows → row ≡ get_or rows i row
+    → OnOk r (next ≡ record row { states = next.states }) → OnErr r (next.spent ≡ true)
+    → any_spent (slice_set rows i next) ≡ false → AreRows config 0 (slice_set rows i next)
+rows_after (Ok done) config rows i row next h none lt e stays spent k =
+    rows_set config rows h i next (is_row_after config i row next (row_at config rows i row h lt e) stays)
+rows_after (Err fault) config rows i row next h none lt e stays spent k =
+    let same : any_spent (slice_set rows i next) ≡ next.spent = spent_after rows i next none lt in
+    absurd cc
+
+-- what contracts see of them stays but for the states, unless that shard's are spent
+pub value_after : (config : ConfigValue) (rows : List MembersValue) (old : ReplicasValue) (i : ℕ) (row next : MembersValue)
+    → ◌≡◌ {A = ReplicasValue} (record { config = config; rows = rows_of rows; spent = any_spent rows }) old
+    → AreRows config 0 rows → any_spent rows ≡ false → i < length rows → row ≡ get_or rows i row → next ≡ record row { states = next.states }
+    → ◌≡◌ {A = ReplicasValue} (record { config = config; rows = rows_of (slice_set rows i next); spent = any_spent (slice_set rows i next) }) (record old { rows = rows_of (slice_set rows i next) })
+value_after config rows old i row next view h none lt e stays =
+    let same : any_spent (slice_set rows i next) ≡ any_spent rows =
+    spent_after rows i next none lt ∙ (is_row_after config i row next (row_at config rows i row h lt e) stays).unspent ∙ sym none in
+    ap (λ (z : Bool). let made : ReplicasValue = record { config = config; rows = rows_of (slice_set rows i next); spent = z } in made) same
+    ∙ ap (λ (v : ReplicasValue). let made : ReplicasValue = record v { rows = rows_of (slice_set rows i next) } in made) view

@@ -1,5 +1,6 @@
 -- All clients, by number.
 use Rattle.std.specs.Prelude.{◌≡◌, ◌<◌, ⊤, ℕ, ◌+◌, Bool, false, Option, Some, None, List, [], ◌∷◌, map, slice_set}
+use Rattle.std.specs.List.{list_any}
 use Rattle.eris_base.specs.declared.ids.ClientId.{ClientId}
 use Rattle.eris_base.specs.declared.ids.TxnId.{TxnId}
 use Rattle.eris_base.specs.ConfigLimits.{ConfigValue}
@@ -13,7 +14,7 @@ use Rattle.eris_rules.specs.ClientStates.{ClientIdentity, ClientOut, ClientState
 use Rattle.eris_rules.specs.Happenings.{plan_of_transaction, transaction_of}
 use Rattle.eris_rules.specs.Worlds.{client_at}
 
--- their states, by client, and whether memory ran out in an act of one
+-- their states, by client, and whether one of them is spent
 pub record ClientsValue : Type 0 where
   pub config : ConfigValue
   pub states : List ClientState
@@ -34,6 +35,9 @@ AreClients config number (one ∷ more) = IsClient config number one × AreClien
 
 abbrev pub states_of : List ClientValue → List ClientState
 states_of clients = map (λ one. one.state) clients
+
+abbrev pub any_spent : List ClientValue → Bool
+any_spent clients = list_any (λ one. one.spent) clients
 
 -- a client can count one more submission
 abbrev pub HasRoom : ClientState → Type 0

@@ -1,5 +1,6 @@
 -- The replicas of one shard.
 use Rattle.std.specs.Prelude.{◌≡◌, ⊤, ℕ, ◌+◌, Bool, false, Option, Some, None, List, [], ◌∷◌, map, slice_get, slice_set}
+use Rattle.std.specs.List.{list_any}
 use Rattle.eris_base.specs.declared.ids.ShardId.{ShardId}
 use Rattle.eris_base.specs.ConfigLimits.{ConfigValue}
 use Rattle.eris_msg.specs.declared.outgoing.Outgoing.{Outgoing}
@@ -8,7 +9,7 @@ use Rattle.eris_rules.specs.declared.replica_input.ReplicaInput.{ReplicaInput}
 use Rattle.eris_rules.specs.Replicas.{replica_step}
 use Rattle.eris_rules.specs.ReplicaStates.{Identity, ReplicaState, ReplicaOut}
 
--- their states, by replica, and whether memory ran out in a step of one
+-- their states, by replica, and whether one of them is spent
 pub record MembersValue : Type 0 where
   pub config : ConfigValue
   pub shard : ShardId
@@ -30,6 +31,9 @@ AreMembers config shard number (one ∷ more) = IsMember config shard number one
 
 abbrev pub states_of : List ReplicaValue → List ReplicaState
 states_of members = map (λ one. one.state) members
+
+abbrev pub any_spent : List ReplicaValue → Bool
+any_spent members = list_any (λ one. one.spent) members
 
 -- the states after a step of one of them, and what it sends
 pub record MembersOut : Type 0 where

@@ -1,6 +1,6 @@
 -- All replicas, by shard and replica.
 use Rattle.std.specs.Prelude.{◌≡◌, ⊤, ℕ, ◌+◌, Bool, false, Option, Some, None, List, [], ◌∷◌, map}
-use Rattle.std.specs.List.{range_with_len}
+use Rattle.std.specs.List.{list_any, range_with_len}
 use Rattle.eris_base.specs.declared.ids.ReplicaId.{ReplicaId}
 use Rattle.eris_base.specs.declared.ids.ShardId.{ShardId}
 use Rattle.eris_base.specs.ConfigLimits.{ConfigValue}
@@ -13,7 +13,7 @@ use Rattle.eris_rules.specs.ReplicaStates.{ReplicaState, ReplicaOut}
 use Rattle.eris_rules.specs.Worlds.{first_replicas, replica_at, with_replica}
 use Rattle.eris_nodes.specs.MemberRows.{MembersValue}
 
--- their states, by shard and replica, and whether memory ran out in a step of one
+-- their states, by shard and replica, and whether one of them is spent
 pub record ReplicasValue : Type 0 where
   pub config : ConfigValue
   pub rows : List (List ReplicaState)
@@ -32,6 +32,9 @@ AreRows config number (row ∷ rows) = IsRow config number row × AreRows config
 
 abbrev pub rows_of : List MembersValue → List (List ReplicaState)
 rows_of rows = map (λ row. row.states) rows
+
+abbrev pub any_spent : List MembersValue → Bool
+any_spent rows = list_any (λ row. row.spent) rows
 
 abbrev pub row_of_shard : ConfigValue → ℕ → List ReplicaState
 row_of_shard config number = first_replicas config (record { 0 = number })

@@ -24,13 +24,14 @@ pub enum Act {
 /// What a client sends, and what happened at it.
 pub type Told = (Row<Outgoing>, Option<HistoryEvent>);
 
-/// The client acts.
+/// The client acts. After [`NoMemory`] it is spent, or as it was.
 pub fn perform(alloc: Global, one: &mut Client, act: Act) -> Result<Told, NoMemory>
     requires unspent { one.old.spent ≡ false }
     requires can { CanAct one.old.me one.old.state act }
     ensures ok { IfOk result (λ out. record { state = one.new.state; sends = out.0; event = out.1 } ≡ acts act one.old.me one.old.state) }
     ensures fits { IfOk result (λ out. SendsFit out.0) }
     ensures stays { OnOk result (one.new ≡ record one.old { state = one.new.state }) }
+    ensures err { OnErr result (one.new.spent ≡ false → one.new ≡ one.old) }
 {
     match act {
         Act::Submit(txn) => submit(alloc, one, txn),
@@ -49,6 +50,7 @@ fn submit(alloc: Global, one: &mut Client, txn: Txn) -> Result<Told, NoMemory>
     ensures ok { IfOk result (λ out. record { state = one.new.state; sends = out.0; event = out.1 } ≡ submit one.old.me one.old.state txn) }
     ensures fits { IfOk result (λ out. SendsFit out.0) }
     ensures stays { OnOk result (one.new ≡ record one.old { state = one.new.state }) }
+    ensures err { OnErr result (one.new.spent ≡ false → one.new ≡ one.old) }
 {
     let kept = txn.copy(alloc)?;
     let answered = one.submit(txn)?;
@@ -63,6 +65,7 @@ fn ask_again(alloc: Global, one: &mut Client, number: u32) -> Result<Told, NoMem
     ensures ok { IfOk result (λ out. record { state = one.new.state; sends = out.0; event = out.1 } ≡ retry one.old.me one.old.state number) }
     ensures fits { IfOk result (λ out. SendsFit out.0) }
     ensures stays { OnOk result (one.new ≡ record one.old { state = one.new.state }) }
+    ensures err { OnErr result (one.new.spent ≡ false → one.new ≡ one.old) }
 {
     match one.retry(number) {
         Ok(sends) => Ok((sends, None)),

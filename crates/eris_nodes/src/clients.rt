@@ -24,18 +24,17 @@ pub struct Clients {
     alloc: Global,
     config: Config,
     clients: Vec<Client>,
-    spent: bool,
 }
 
 impl Model for Clients {
     ghost use Rattle.std.specs.Prelude.{◌≡◌, false};
-    ghost use Rattle.eris_nodes.specs.ClientRows.{ClientsValue, AreClients, states_of};
+    ghost use Rattle.eris_nodes.specs.ClientRows.{ClientsValue, AreClients, any_spent, states_of};
 
     ghost Value = { ClientsValue };
 
-    ghost view = { λ c. record { config = c.config; states = states_of c.clients.items; spent = c.spent } };
+    ghost view = { λ c. record { config = c.config; states = states_of c.clients.items; spent = any_spent c.clients.items } };
 
-    ghost invariant = { λ c. c.spent ≡ false → AreClients c.config 0 c.clients.items };
+    ghost invariant = { λ c. any_spent c.clients.items ≡ false → AreClients c.config 0 c.clients.items };
 }
 
 impl Clients {
@@ -48,11 +47,11 @@ impl Clients {
             alloc,
             config,
             clients,
-            spent: false,
         })
     }
 
-    /// A client acts of itself; where there is none nothing is done and nothing sent. After [`NoMemory`] they are spent.
+    /// A client acts of itself; where there is none nothing is done and nothing sent. After [`NoMemory`] they
+    /// are spent, or as they were.
     pub fn act(&mut self, client: ClientId, act: Act) -> Result<Told, NoMemory>
         requires unspent { self.old.spent ≡ false }
         requires can { CanActAt self.old.config self.old.states client act }
@@ -60,18 +59,15 @@ impl Clients {
             ≡ clients_act self.old.config self.old.states client (acts act)) }
         ensures fits { IfOk result (λ out. SendsFit out.0) }
         ensures stays { OnOk result (self.new ≡ record self.old { states = self.new.states }) }
-        ensures err { OnErr result (self.new.spent ≡ true) }
+        ensures err { OnErr result (self.new.spent ≡ false → self.new ≡ self.old) }
     {
         let at = client.0 as usize;
         if at >= self.clients.len() {
             leave(act);
             return Ok((Row::new(self.alloc), None));
         }
-        self.spent = true;
         let one = &mut self.clients[at];
-        let told = perform(self.alloc, one, act)?;
-        self.spent = false;
-        Ok(told)
+        perform(self.alloc, one, act)
     }
 
     /// A client takes the message that the bytes spell. Bytes that spell none change nothing, send nothing and
@@ -92,11 +88,8 @@ impl Clients {
         if at >= self.clients.len() {
             return Ok((Row::new(self.alloc), None));
         }
-        self.spent = true;
         let one = &mut self.clients[at];
-        let told = one.receive(bytes)?;
-        self.spent = false;
-        Ok(told)
+        one.receive(bytes)
     }
 
     /// Whether the client of the id submitted such a transaction. It takes no memory.

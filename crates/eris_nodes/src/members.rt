@@ -29,18 +29,17 @@ pub struct Members {
     config: Config,
     shard: ShardId,
     members: Vec<Replica>,
-    spent: bool,
 }
 
 impl Model for Members {
     ghost use Rattle.std.specs.Prelude.{◌≡◌, false};
-    ghost use Rattle.eris_nodes.specs.MemberRows.{MembersValue, AreMembers, states_of};
+    ghost use Rattle.eris_nodes.specs.MemberRows.{MembersValue, AreMembers, any_spent, states_of};
 
     ghost Value = { MembersValue };
 
-    ghost view = { λ m. record { config = m.config; shard = m.shard; states = states_of m.members.items; spent = m.spent } };
+    ghost view = { λ m. record { config = m.config; shard = m.shard; states = states_of m.members.items; spent = any_spent m.members.items } };
 
-    ghost invariant = { λ m. m.spent ≡ false → AreMembers m.config m.shard 0 m.members.items };
+    ghost invariant = { λ m. any_spent m.members.items ≡ false → AreMembers m.config m.shard 0 m.members.items };
 }
 
 impl Members {
@@ -55,7 +54,6 @@ impl Members {
             config,
             shard,
             members,
-            spent: false,
         })
     }
 
@@ -78,11 +76,8 @@ impl Members {
             leave(input);
             return Ok(Row::new(self.alloc));
         }
-        self.spent = true;
         let member = &mut self.members[at];
-        let sends = member.step(input)?;
-        self.spent = false;
-        Ok(sends)
+        member.step(input)
     }
 
     /// The replica of this number takes the message that the bytes spell, as by [`step`](Members::step); where
@@ -101,11 +96,8 @@ impl Members {
         if at >= self.members.len() {
             return Ok(Row::new(self.alloc));
         }
-        self.spent = true;
         let member = &mut self.members[at];
-        let sends = member.receive(bytes)?;
-        self.spent = false;
-        Ok(sends)
+        member.receive(bytes)
     }
 
     /// The settled log of the replica of this number; nothing where there is none.

@@ -26,18 +26,17 @@ pub struct Replicas {
     alloc: Global,
     config: Config,
     rows: Vec<Members>,
-    spent: bool,
 }
 
 impl Model for Replicas {
     ghost use Rattle.std.specs.Prelude.{◌≡◌, false};
-    ghost use Rattle.eris_nodes.specs.ReplicaRows.{ReplicasValue, AreRows, rows_of};
+    ghost use Rattle.eris_nodes.specs.ReplicaRows.{ReplicasValue, AreRows, any_spent, rows_of};
 
     ghost Value = { ReplicasValue };
 
-    ghost view = { λ r. record { config = r.config; rows = rows_of r.rows.items; spent = r.spent } };
+    ghost view = { λ r. record { config = r.config; rows = rows_of r.rows.items; spent = any_spent r.rows.items } };
 
-    ghost invariant = { λ r. r.spent ≡ false → AreRows r.config 0 r.rows.items };
+    ghost invariant = { λ r. any_spent r.rows.items ≡ false → AreRows r.config 0 r.rows.items };
 }
 
 impl Replicas {
@@ -50,7 +49,6 @@ impl Replicas {
             alloc,
             config,
             rows,
-            spent: false,
         })
     }
 
@@ -75,11 +73,8 @@ impl Replicas {
             leave(input);
             return Ok(Row::new(self.alloc));
         }
-        self.spent = true;
         let row = &mut self.rows[at];
-        let sends = row.step(replica, input)?;
-        self.spent = false;
-        Ok(sends)
+        row.step(replica, input)
     }
 
     /// A replica takes the message that the bytes spell, as by [`step`](Replicas::step). Bytes that spell none
@@ -103,11 +98,8 @@ impl Replicas {
         if at >= self.rows.len() {
             return Ok(Row::new(self.alloc));
         }
-        self.spent = true;
         let row = &mut self.rows[at];
-        let sends = row.receive(replica, bytes)?;
-        self.spent = false;
-        Ok(sends)
+        row.receive(replica, bytes)
     }
 
     /// The settled log of a replica; nothing where there is no such replica.

@@ -6,6 +6,7 @@ use Rattle.eris_rules.specs.Refusals.{limit_met}
 use Rattle.eris_network.specs.Limits.{IsMetBy, packet_limit}
 use Rattle.eris_network.specs.Networks.{NetworkValue}
 use Rattle.eris_network.proofs.LimitLaws.{too_many_packets, met_by, no_limit}
+use Rattle.eris_network.proofs.NetworkLaws.{more_sent}
 use Rattle.eris_network.proofs.network.Network.send.Goals as goal
 
 pub returns-then-sends-len-clause-err : goal.returns-then-sends-len-clause-err
@@ -26,3 +27,7 @@ returns-clause-room c =
     c.in-Ok.ensures.ok ∙ ap (λ (value : NetworkValue). value.sent ++ c.args.sends.now) c.self.view_is in
     let few : length c.add_all.new.self ≤ packet_limit = omega (arith, c.len-sent.ensures.exact, c.len-sent.ensures.few) in
     subst (λ (sent : List Outgoing). limit_met sent ≡ None) now (no_limit c.add_all.new.self few c.len-sent.ensures.small)
+
+pub returns-clause-ok : goal.returns-clause-ok
+returns-clause-ok c =
+    more_sent c.self.inside.frames c.add_all.new.self c.args.sends.now c.self.inside.waiting c.add_all-2.new.self c.args.self.now c.self.view_is c.requires.spent c.in-Ok.ensures.ok c.in_ok-add_all.ensures

@@ -3,7 +3,7 @@ use Rattle.std.specs.Prelude.{is_some}
 use Rattle.std.proofs.lemmas.List.{length-map}
 use Rattle.eris_client.specs.ClientValues.{ClientValue}
 use Rattle.eris_rules.specs.declared.transaction.Transaction.{Transaction}
-use Rattle.eris_nodes.specs.ClientRows.{ClientsValue, transaction_in}
+use Rattle.eris_nodes.specs.ClientRows.{ClientsValue, any_spent, transaction_in}
 use Rattle.eris_nodes.proofs.ClientLaws.{transaction_in-at, transaction_in-past}
 use Rattle.eris_nodes.proofs.clients.Clients.has_submitted.Goals as goal
 
@@ -15,7 +15,7 @@ returns-then-at-len c =
 
 pub returns : goal.returns
 returns c =
-    let unspent : c.self.inside.spent ≡ false = ap (λ (v : ClientsValue). v.spent) c.self.view_is ∙ c.requires in
+    let unspent : any_spent c.self.inside.clients.items ≡ false = ap (λ (v : ClientsValue). v.spent) c.self.view_is ∙ c.requires in
     let within : c.args.id.client.0 < length c.self.inside.clients.items = omega (arith, c.if-at-len.false, c.len.ensures) in
     c.has_submitted.ensures ∙ ap (λ (o : Option Transaction). is_some o)
     (transaction_in-at c.self.inside.config c.self.inside.clients.items c.args.id c.index-one.result.now (c.self.invariant unspent) within c.index-one.ensures

@@ -7,7 +7,7 @@ use Rattle.eris_codec.specs.Fields as f
 use Rattle.eris_client.specs.ClientValues.{ClientValue}
 use Rattle.eris_rules.specs.declared.transaction.Transaction.{Transaction}
 use Rattle.eris_rules.specs.Happenings.{plan_of_transaction}
-use Rattle.eris_nodes.specs.ClientRows.{ClientsValue, keys_in, transaction_in}
+use Rattle.eris_nodes.specs.ClientRows.{ClientsValue, any_spent, keys_in, transaction_in}
 use Rattle.eris_nodes.proofs.ClientLaws.{client_at-is, own_id-at, transaction_in-at, transaction_in-past}
 use Rattle.eris_nodes.proofs.clients.Clients.plan_keys.Goals as goal
 
@@ -19,13 +19,13 @@ returns-then-at-len-clause-exact c =
 
 pub keys_of-requires : goal.keys_of-requires
 keys_of-requires c =
-    let unspent : c.self.inside.spent ≡ false = ap (λ (v : ClientsValue). v.spent) c.self.view_is ∙ c.requires in
+    let unspent : any_spent c.self.inside.clients.items ≡ false = ap (λ (v : ClientsValue). v.spent) c.self.view_is ∙ c.requires in
     let within : c.args.id.client.0 < length c.self.inside.clients.items = omega (arith, c.if-at-len.false, c.len.ensures) in
     (client_at-is c.self.inside.config c.self.inside.clients.items c.args.id.client.0 c.index-one.result.now (c.self.invariant unspent) within c.index-one.ensures).unspent
 
 pub returns-clause-exact : goal.returns-clause-exact
 returns-clause-exact c =
-    let unspent : c.self.inside.spent ≡ false = ap (λ (v : ClientsValue). v.spent) c.self.view_is ∙ c.requires in
+    let unspent : any_spent c.self.inside.clients.items ≡ false = ap (λ (v : ClientsValue). v.spent) c.self.view_is ∙ c.requires in
     let within : c.args.id.client.0 < length c.self.inside.clients.items = omega (arith, c.if-at-len.false, c.len.ensures) in
     let same = transaction_in-at c.self.inside.config c.self.inside.clients.items c.args.id c.index-one.result.now (c.self.invariant unspent) within c.index-one.ensures
     ∙ ap (λ (v : ClientsValue). transaction_in v.states c.args.id) c.self.view_is in
@@ -33,7 +33,7 @@ returns-clause-exact c =
 
 pub returns-clause-fits : goal.returns-clause-fits
 returns-clause-fits c =
-    let unspent : c.self.inside.spent ≡ false = ap (λ (v : ClientsValue). v.spent) c.self.view_is ∙ c.requires in
+    let unspent : any_spent c.self.inside.clients.items ≡ false = ap (λ (v : ClientsValue). v.spent) c.self.view_is ∙ c.requires in
     let within : c.args.id.client.0 < length c.self.inside.clients.items = omega (arith, c.if-at-len.false, c.len.ensures) in
     let same = own_id-at c.self.inside.config c.self.inside.clients.items c.args.id c.index-one.result.now (c.self.invariant unspent) within c.index-one.ensures in
     IfOk-weaker c.keys_of.result _ _ (λ found k. subst (λ (z : TxnId). IfSome found (λ keys. (f.keys.fits keys ≡ true) × (f.id.fits z ≡ true))) same k) c.keys_of.ensures.fits

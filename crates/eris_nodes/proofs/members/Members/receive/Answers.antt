@@ -1,10 +1,12 @@
-use Rattle.std.proofs.Common.{◌≡◌, ◌<◌, ◌≤◌, false, length, ap, subst, ◌∙◌, arith}
+use Rattle.std.proofs.Common.{◌≡◌, ◌<◌, ◌≤◌, true, false, List, length, ap, subst, ◌∙◌, arith}
 use Rattle.std.specs.Prelude.{slice_set}
 use Rattle.std.proofs.lemmas.List.{length-map}
+use Rattle.std.proofs.lemmas.Result.{IfOk-weaker, on_err_weaker, on_ok_weaker}
+use Rattle.eris_msg.specs.declared.outgoing.Outgoing.{Outgoing}
 use Rattle.eris_replica.specs.ReplicaValues.{ReplicaValue}
 use Rattle.eris_rules.specs.declared.replica_input.ReplicaInput.TheVariants as inputs
-use Rattle.eris_nodes.specs.MemberRows.{MembersOut, MembersValue, identity, members_step, states_of}
-use Rattle.eris_nodes.proofs.MemberLaws.{is_member_after, member_at, members_set, members_stay, members_step-at, members_step-past}
+use Rattle.eris_nodes.specs.MemberRows.{MembersOut, MembersValue, any_spent, identity, members_step, states_of}
+use Rattle.eris_nodes.proofs.MemberLaws.{member_at, members_after, members_noise, members_step-at, members_step-past, spent_after, value_after}
 use Rattle.eris_nodes.proofs.members.Members.receive.Goals as goal
 
 pub returns-then-at-len-clause-message : goal.returns-then-at-len-clause-message
@@ -16,30 +18,41 @@ returns-then-at-len-clause-message c =
 
 pub receive-requires : goal.receive-requires
 receive-requires c =
-    let unspent : c.self.inside.spent ≡ false = ap (λ (v : MembersValue). v.spent) c.self.view_is ∙ c.requires in
+    let unspent : any_spent c.self.inside.members.items ≡ false = ap (λ (v : MembersValue). v.spent) c.self.view_is ∙ c.requires in
     let within : c.args.replica.0 < length c.self.inside.members.items = omega (arith, c.if-at-len.false, c.len.ensures) in
     (member_at c.self.inside.config c.self.inside.shard c.self.inside.members.items c.args.replica.0 c.index_mut-member.result.now (c.self.invariant unspent) within c.index_mut-member.ensures.value).unspent
 
-pub invariant_of-self-2 : goal.invariant_of-self-2
-invariant_of-self-2 c =
-    let unspent : c.self.inside.spent ≡ false = ap (λ (v : MembersValue). v.spent) c.self.view_is ∙ c.requires in
+pub invariant_of-self : goal.invariant_of-self
+invariant_of-self c =
+    let unspent : any_spent c.self.inside.members.items ≡ false = ap (λ (v : MembersValue). v.spent) c.self.view_is ∙ c.requires in
     let within : c.args.replica.0 < length c.self.inside.members.items = omega (arith, c.if-at-len.false, c.len.ensures) in
-    let one = member_at c.self.inside.config c.self.inside.shard c.self.inside.members.items c.args.replica.0 c.index_mut-member.result.now (c.self.invariant unspent) within c.index_mut-member.ensures.value in
-    λ _. members_set c.self.inside.config c.self.inside.shard c.self.inside.members.items (c.self.invariant unspent) c.args.replica.0 c.receive.new.self
-    (is_member_after c.self.inside.config c.self.inside.shard c.args.replica.0 c.index_mut-member.result.now c.receive.new.self one c.in_ok-sends.ensures.stays)
+    members_after c.receive.result c.self.inside.config c.self.inside.shard c.self.inside.members.items c.args.replica.0 c.index_mut-member.result.now c.receive.new.self (c.self.invariant unspent) unspent within c.index_mut-member.ensures.value
+    c.receive.ensures.stays c.receive.ensures.err
 
 pub returns-clause-message : goal.returns-clause-message
 returns-clause-message c =
-    let unspent : c.self.inside.spent ≡ false = ap (λ (v : MembersValue). v.spent) c.self.view_is ∙ c.requires in
+    let unspent : any_spent c.self.inside.members.items ≡ false = ap (λ (v : MembersValue). v.spent) c.self.view_is ∙ c.requires in
     let within : c.args.replica.0 < length c.self.inside.members.items = omega (arith, c.if-at-len.false, c.len.ensures) in
-    let new : MembersOut = record { states = states_of (slice_set c.self.inside.members.items c.args.replica.0 c.receive.new.self); sends = c.in_ok-sends.sends } in
-    λ message spelled. subst (λ (v : MembersValue). new ≡ members_step (identity v.config v.shard c.args.replica.0) v.states (inputs.Message message)) c.self.view_is
-    (members_step-at c.self.inside.config c.self.inside.shard c.self.inside.members.items c.args.replica.0 c.index_mut-member.result.now c.receive.new.self c.in_ok-sends.sends (inputs.Message message)
-    (c.self.invariant unspent) within c.index_mut-member.ensures.value (c.in_ok-sends.ensures.message message spelled))
+    λ message spelled. IfOk-weaker c.receive.result _ _
+    (λ (sends : List Outgoing) made. subst (λ (v : MembersValue). let new : MembersOut = record { states = states_of (slice_set c.self.inside.members.items c.args.replica.0 c.receive.new.self); sends = sends } in
+    new ≡ members_step (identity v.config v.shard c.args.replica.0) v.states (inputs.Message message)) c.self.view_is
+    (members_step-at c.self.inside.config c.self.inside.shard c.self.inside.members.items c.args.replica.0 c.index_mut-member.result.now c.receive.new.self sends (inputs.Message message) (c.self.invariant unspent) within c.index_mut-member.ensures.value made))
+    (c.receive.ensures.message message spelled)
 
 pub returns-clause-noise : goal.returns-clause-noise
-returns-clause-noise c = λ none. (
-  (c.in_ok-sends.ensures.noise none).0,
-  members_stay c.self.inside.members.items c.args.replica.0 c.index_mut-member.result.now c.receive.new.self c.index_mut-member.ensures.value (c.in_ok-sends.ensures.noise none).1
-      ∙ ap (λ (v : MembersValue). v.states) c.self.view_is,
-)
+returns-clause-noise c = λ none.
+    members_noise c.receive.result c.self.inside.members.items c.args.replica.0 c.index_mut-member.result.now c.receive.new.self c.args.self.now.states c.index_mut-member.ensures.value (ap (λ (v : MembersValue). v.states) c.self.view_is) (c.receive.ensures.noise none)
+
+pub returns-clause-stays : goal.returns-clause-stays
+returns-clause-stays c =
+    let unspent : any_spent c.self.inside.members.items ≡ false = ap (λ (v : MembersValue). v.spent) c.self.view_is ∙ c.requires in
+    let within : c.args.replica.0 < length c.self.inside.members.items = omega (arith, c.if-at-len.false, c.len.ensures) in
+    on_ok_weaker c.receive.result
+    (λ (stays : c.receive.new.self ≡ record c.index_mut-member.result.now { state = c.receive.new.self.state }). value_after c.self.inside.config c.self.inside.shard c.self.inside.members.items c.args.self.now c.args.replica.0 c.index_mut-member.result.now c.receive.new.self c.self.view_is
+    (c.self.invariant unspent) unspent within c.index_mut-member.ensures.value stays) c.receive.ensures.stays
+
+pub returns-clause-err : goal.returns-clause-err
+returns-clause-err c =
+    let unspent : any_spent c.self.inside.members.items ≡ false = ap (λ (v : MembersValue). v.spent) c.self.view_is ∙ c.requires in
+    let within : c.args.replica.0 < length c.self.inside.members.items = omega (arith, c.if-at-len.false, c.len.ensures) in
+    on_err_weaker c.receive.result (λ (spent : c.receive.new.self.spent ≡ true). spent_after c.self.inside.members.items c.args.replica.0 c.receive.new.self unspent within ∙ spent) c.receive.ensures.err

@@ -1,10 +1,12 @@
-use Rattle.std.proofs.Common.{◌≡◌, ◌<◌, ◌≤◌, false, length, ap, subst, ◌∙◌, arith}
+use Rattle.std.proofs.Common.{◌≡◌, ◌<◌, ◌≤◌, true, false, List, length, ap, subst, ◌∙◌, arith}
 use Rattle.std.specs.Prelude.{slice_set}
 use Rattle.std.proofs.lemmas.List.{length-map}
+use Rattle.std.proofs.lemmas.Result.{IfOk-weaker, on_err_weaker, on_ok_weaker}
+use Rattle.eris_msg.specs.declared.outgoing.Outgoing.{Outgoing}
 use Rattle.eris_rules.specs.declared.replica_input.ReplicaInput.TheVariants as inputs
 use Rattle.eris_nodes.specs.MemberRows.{MembersValue}
-use Rattle.eris_nodes.specs.ReplicaRows.{ReplicasOut, ReplicasValue, replicas_step, rows_of}
-use Rattle.eris_nodes.proofs.ReplicaLaws.{is_row_after, replicas_step-at, replicas_step-past, row_at, rows_set, rows_stay}
+use Rattle.eris_nodes.specs.ReplicaRows.{ReplicasOut, ReplicasValue, any_spent, replicas_step, rows_of}
+use Rattle.eris_nodes.proofs.ReplicaLaws.{replicas_step-at, replicas_step-past, row_at, rows_after, rows_noise, spent_after, value_after}
 use Rattle.eris_nodes.proofs.replicas.Replicas.receive.Goals as goal
 
 pub returns-then-at-len-clause-message : goal.returns-then-at-len-clause-message
@@ -16,30 +18,40 @@ returns-then-at-len-clause-message c =
 
 pub receive-requires : goal.receive-requires
 receive-requires c =
-    let unspent : c.self.inside.spent ≡ false = ap (λ (v : ReplicasValue). v.spent) c.self.view_is ∙ c.requires in
+    let unspent : any_spent c.self.inside.rows.items ≡ false = ap (λ (v : ReplicasValue). v.spent) c.self.view_is ∙ c.requires in
     let within : c.args.shard.0 < length c.self.inside.rows.items = omega (arith, c.if-at-len.false, c.len.ensures) in
     (row_at c.self.inside.config c.self.inside.rows.items c.args.shard.0 c.index_mut-row.result.now (c.self.invariant unspent) within c.index_mut-row.ensures.value).unspent
 
-pub invariant_of-self-2 : goal.invariant_of-self-2
-invariant_of-self-2 c =
-    let unspent : c.self.inside.spent ≡ false = ap (λ (v : ReplicasValue). v.spent) c.self.view_is ∙ c.requires in
+pub invariant_of-self : goal.invariant_of-self
+invariant_of-self c =
+    let unspent : any_spent c.self.inside.rows.items ≡ false = ap (λ (v : ReplicasValue). v.spent) c.self.view_is ∙ c.requires in
     let within : c.args.shard.0 < length c.self.inside.rows.items = omega (arith, c.if-at-len.false, c.len.ensures) in
-    let row = row_at c.self.inside.config c.self.inside.rows.items c.args.shard.0 c.index_mut-row.result.now (c.self.invariant unspent) within c.index_mut-row.ensures.value in
-    λ _. rows_set c.self.inside.config c.self.inside.rows.items (c.self.invariant unspent) c.args.shard.0 c.receive.new.self
-    (is_row_after c.self.inside.config c.args.shard.0 c.index_mut-row.result.now c.receive.new.self row c.in_ok-sends.ensures.stays)
+    rows_after c.receive.result c.self.inside.config c.self.inside.rows.items c.args.shard.0 c.index_mut-row.result.now c.receive.new.self (c.self.invariant unspent) unspent within c.index_mut-row.ensures.value c.receive.ensures.stays c.receive.ensures.err
 
 pub returns-clause-message : goal.returns-clause-message
 returns-clause-message c =
-    let unspent : c.self.inside.spent ≡ false = ap (λ (v : ReplicasValue). v.spent) c.self.view_is ∙ c.requires in
+    let unspent : any_spent c.self.inside.rows.items ≡ false = ap (λ (v : ReplicasValue). v.spent) c.self.view_is ∙ c.requires in
     let within : c.args.shard.0 < length c.self.inside.rows.items = omega (arith, c.if-at-len.false, c.len.ensures) in
-    let new : ReplicasOut = record { rows = rows_of (slice_set c.self.inside.rows.items c.args.shard.0 c.receive.new.self); sends = c.in_ok-sends.sends } in
-    λ message spelled. subst (λ (v : ReplicasValue). new ≡ replicas_step v.config v.rows c.args.shard c.args.replica (inputs.Message message)) c.self.view_is
-    (replicas_step-at c.self.inside.config c.self.inside.rows.items c.args.shard c.args.replica c.index_mut-row.result.now c.receive.new.self c.in_ok-sends.sends (inputs.Message message)
-    (c.self.invariant unspent) within c.index_mut-row.ensures.value (c.in_ok-sends.ensures.message message spelled))
+    λ message spelled. IfOk-weaker c.receive.result _ _
+    (λ (sends : List Outgoing) made. subst (λ (v : ReplicasValue). let new : ReplicasOut = record { rows = rows_of (slice_set c.self.inside.rows.items c.args.shard.0 c.receive.new.self); sends = sends } in
+    new ≡ replicas_step v.config v.rows c.args.shard c.args.replica (inputs.Message message)) c.self.view_is
+    (replicas_step-at c.self.inside.config c.self.inside.rows.items c.args.shard c.args.replica c.index_mut-row.result.now c.receive.new.self sends (inputs.Message message) (c.self.invariant unspent) within c.index_mut-row.ensures.value made))
+    (c.receive.ensures.message message spelled)
 
 pub returns-clause-noise : goal.returns-clause-noise
-returns-clause-noise c = λ none. (
-  (c.in_ok-sends.ensures.noise none).0,
-  rows_stay c.self.inside.rows.items c.args.shard.0 c.index_mut-row.result.now c.receive.new.self c.index_mut-row.ensures.value (c.in_ok-sends.ensures.noise none).1
-      ∙ ap (λ (v : ReplicasValue). v.rows) c.self.view_is,
-)
+returns-clause-noise c = λ none.
+    rows_noise c.receive.result c.self.inside.rows.items c.args.shard.0 c.index_mut-row.result.now c.receive.new.self c.args.self.now.rows c.index_mut-row.ensures.value (ap (λ (v : ReplicasValue). v.rows) c.self.view_is) (c.receive.ensures.noise none)
+
+pub returns-clause-stays : goal.returns-clause-stays
+returns-clause-stays c =
+    let unspent : any_spent c.self.inside.rows.items ≡ false = ap (λ (v : ReplicasValue). v.spent) c.self.view_is ∙ c.requires in
+    let within : c.args.shard.0 < length c.self.inside.rows.items = omega (arith, c.if-at-len.false, c.len.ensures) in
+    on_ok_weaker c.receive.result
+    (λ (stays : c.receive.new.self ≡ record c.index_mut-row.result.now { states = c.receive.new.self.states }). value_after c.self.inside.config c.self.inside.rows.items c.args.self.now c.args.shard.0 c.index_mut-row.result.now c.receive.new.self c.self.view_is
+    (c.self.invariant unspent) unspent within c.index_mut-row.ensures.value stays) c.receive.ensures.stays
+
+pub returns-clause-err : goal.returns-clause-err
+returns-clause-err c =
+    let unspent : any_spent c.self.inside.rows.items ≡ false = ap (λ (v : ReplicasValue). v.spent) c.self.view_is ∙ c.requires in
+    let within : c.args.shard.0 < length c.self.inside.rows.items = omega (arith, c.if-at-len.false, c.len.ensures) in
+    on_err_weaker c.receive.result (λ (spent : c.receive.new.self.spent ≡ true). spent_after c.self.inside.rows.items c.args.shard.0 c.receive.new.self unspent within ∙ spent) c.receive.ensures.err
