@@ -11,6 +11,8 @@ use Rattle.eris_law_drill.specs.Reading.{drill_events}
 use Rattle.eris_status.specs.declared.due.Due.{Due}
 use Rattle.eris_event.specs.declared.limit.Limit.{Limit}
 use Rattle.eris_status.specs.declared.refused.Refused.{Refused}
+use Rattle.eris_status.specs.declared.refused.Stop.{Stop}
+use Rattle.eris_status.specs.declared.refused.Stop.TheVariants as stops
 use Rattle.eris_status.specs.declared.refused.Why.{Why}
 use Rattle.eris_status.specs.declared.refused.Why.TheVariants as whys
 use Rattle.eris_status.specs.declared.status.Status.{Status}
@@ -28,7 +30,7 @@ abbrev pub DrillsEnd : Type 0
 DrillsEnd = (number : ℕ) → number ≤ 500 → (ran : Ran) → outcome (drill_text number) ≡ Ok ran → (ran.config ≡ bank) × (run bank (drill_events number) ≡ Some ran.world)
 
 abbrev pub DrillsMeetLimits : Type 0
-DrillsMeetLimits = (number : ℕ) → number ≤ 500 → (refused : Refused) → outcome (drill_text number) ≡ Err refused → (limit : Limit) × (refused.why ≡ whys.Limit limit)
+DrillsMeetLimits = (number : ℕ) → number ≤ 500 → (stop : Stop) → outcome (drill_text number) ≡ Err stop → (line : ℕ) × (limit : Limit) × (stop ≡ stops.Refused (record { line = line; why = whys.Limit limit }))
 
 abbrev pub DrillsAccept : Type 0
 DrillsAccept = (number : ℕ) → number ≤ 500 → (world : WorldState) → run bank (drill_events number) ≡ Some world → outcome (drill_text number) ≡ Ok (record { config = bank; world = world })
@@ -47,7 +49,6 @@ record Says (number : ℕ) (text : List ℕ) (status : Status) : Type 0 where
   done : status ≡ Done → SummarizesDay number text
   too_large : IfTooLarge status (MeetsLimit number text)
   no_bad_script : IfBadScript status (λ line reason. ⊥)
-  has_text : HasText status
 
 module _ {number : ℕ} (few : number ≤ 500) where
   day_told : (ran : Ran) (text : List ℕ) → DrillsEnd → DrillsSubmit → DrillsAreGood → DrillsKeepMoney → outcome (drill_text number) ≡ Ok ran → IsSummaryOf number ran.world text → Says number text Done
@@ -67,10 +68,9 @@ module _ {number : ℕ} (few : number ≤ 500) where
         };
         too_large = tt;
         no_bad_script = tt;
-        has_text = tt;
       }
 
-  limit_told : (line : ℕ) (why : Why) (limit : Limit) → why ≡ whys.Limit limit → outcome (drill_text number) ≡ Err (record { line = line; why = why }) → Says number (refusal_text line why) (status_of line why)
+  limit_told : (line : ℕ) (why : Why) (limit : Limit) → why ≡ whys.Limit limit → outcome (drill_text number) ≡ Err (stops.Refused (record { line = line; why = why })) → Says number (refusal_text line why) (status_of line why)
   limit_told line (whys.Reason reason) limit same is = absurd cc
   limit_told line (whys.Limit limit) other same is =
       record {
@@ -82,7 +82,6 @@ module _ {number : ℕ} (few : number ≤ 500) where
           is = refl;
         };
         no_bad_script = tt;
-        has_text = tt;
       }
 
   -- ---- what is due for what comes of the drill's bytes
@@ -92,27 +91,30 @@ module _ {number : ℕ} (few : number ≤ 500) where
       let all = subst (λ (status : Status). Says number due.text status) (sym done) (day_told ran due.text ends submit good keep is summary) in
       record {
         status = done ∙ sym (ap status_for is);
-        text = subst (λ (found : Result Ran Refused). IsTextFor number found due.text) (sym is) summary;
+        text = subst (λ (found : Result Ran Stop). IsTextFor number found due.text) (sym is) summary;
         done = all.done;
         too_large = all.too_large;
         no_bad_script = all.no_bad_script;
         accepted = λ world ran. inl done;
-        has_text = all.has_text;
+        has_text = subst HasText (sym done) tt;
       }
 
-  pub line_due : DrillsMeetLimits → DrillsAccept → (refused : Refused) (due : Due) → outcome (drill_text number) ≡ Err refused → IsRefusal refused due → IsDueDay number due
+  pub line_due : DrillsMeetLimits → DrillsAccept → (refused : Refused) (due : Due) → outcome (drill_text number) ≡ Err (stops.Refused refused) → IsRefusal refused due → IsDueDay number due
   line_due limits accept refused due is refusal =
-      let met = limits number few refused is in
+      let met = limits number few (stops.Refused refused) is in
+      let same = met.2 in
+      let here : refused ≡ record { line = met.0; why = whys.Limit met.1 } = cc in
+      let told = limit_told refused.line refused.why met.1 (ap (λ (r : Refused). r.why) here) is in
       let all = subst (λ (status : Status). Says number due.text status) (sym refusal.status)
-      (subst (λ (text : List ℕ). Says number text (status_of refused.line refused.why)) (sym refusal.text) (limit_told refused.line refused.why met.0 met.1 is)) in
+      (subst (λ (text : List ℕ). Says number text (status_of refused.line refused.why)) (sym refusal.text) told) in
       record {
         status = refusal.status ∙ sym (ap status_for is);
-        text = subst (λ (found : Result Ran Refused). IsTextFor number found due.text) (sym is) refusal.text;
+        text = subst (λ (found : Result Ran Stop). IsTextFor number found due.text) (sym is) refusal.text;
         done = all.done;
         too_large = all.too_large;
         no_bad_script = all.no_bad_script;
         accepted = λ world ran. (let other = accept number few world ran in absurd cc);
-        has_text = all.has_text;
+        has_text = refusal.has_text;
       }
 
   -- ---- and for what the run of the script answers
@@ -121,7 +123,7 @@ module _ {number : ℕ} (few : number ≤ 500) where
   days_due ends submit good keep ran (Ok due) is ended = day_due ends submit good keep ran due is ended.0 ended.1
   days_due ends submit good keep ran (Err error) is ended = tt
 
-  pub lines_due : {E : Type 0} → DrillsMeetLimits → DrillsAccept → (refused : Refused) (result : Result Due E) → outcome (drill_text number) ≡ Err refused → IfOk result (IsRefusal refused)
+  pub lines_due : {E : Type 0} → DrillsMeetLimits → DrillsAccept → (refused : Refused) (result : Result Due E) → outcome (drill_text number) ≡ Err (stops.Refused refused) → IfOk result (IsRefusal refused)
       → IfOk result (IsDueDay number)
   lines_due limits accept refused (Ok due) is refusal = line_due limits accept refused due is refusal
   lines_due limits accept refused (Err error) is refusal = tt

@@ -1,5 +1,5 @@
 -- What the run of a drill is due: a status and a text, and what each status says of the day and of this very text.
-use Rattle.std.specs.Prelude.{◌≡◌, ◌⊎◌, ℕ, ◌+◌, Some, Result, Ok, Err, List, count_by, length}
+use Rattle.std.specs.Prelude.{◌≡◌, ◌⊎◌, ℕ, ◌+◌, Some, Result, Ok, Err, List, [], count_by, length}
 use Rattle.eris_rules.specs.Good.{Good}
 use Rattle.eris_rules.specs.Reports.{report_of}
 use Rattle.eris_rules.specs.Runs.{run}
@@ -10,7 +10,8 @@ use Rattle.eris_drill.specs.Summaries.{IsTotal, is_submit, summary_text, values_
 use Rattle.eris_law_drill.specs.Reading.{drill_events}
 use Rattle.eris_status.specs.declared.due.Due.{Due}
 use Rattle.eris_event.specs.declared.limit.Limit.{Limit}
-use Rattle.eris_status.specs.declared.refused.Refused.{Refused}
+use Rattle.eris_status.specs.declared.refused.Stop.{Stop}
+use Rattle.eris_status.specs.declared.refused.Stop.TheVariants as stops
 use Rattle.eris_status.specs.declared.refused.Why.TheVariants as why
 use Rattle.eris_status.specs.declared.status.Status.{Status}
 use Rattle.eris_status.specs.declared.status.Status.TheVariants.{Done, NoMemory}
@@ -46,13 +47,15 @@ pub record SummarizesDay (number : ℕ) (text : List ℕ) : Type 0 where
 pub record MeetsLimit (number : ℕ) (text : List ℕ) (line : ℕ) : Type 0 where
   pub limit : Limit
   pub first : IsFirstRefused (drill_text number) line (why.Limit limit)
-  pub refused : outcome (drill_text number) ≡ Err (record { line = line; why = why.Limit limit })
+  pub refused : outcome (drill_text number) ≡ Err (stops.Refused (record { line = line; why = why.Limit limit }))
   pub is : text ≡ limit_text line limit
 
--- the text that is due for what comes of a drill: the summary of its day, or the line that is refused
-abbrev pub IsTextFor : ℕ → Result Ran Refused → List ℕ → Type 0
+-- the text that is due for what comes of a drill: the summary of its day, or the line that is refused; with want of memory nothing
+-- is written
+abbrev pub IsTextFor : ℕ → Result Ran Stop → List ℕ → Type 0
 IsTextFor number (Ok ran) text = IsSummaryOf number ran.world text
-IsTextFor number (Err refused) text = text ≡ refusal_text refused.line refused.why
+IsTextFor number (Err (stops.Refused refused)) text = text ≡ refusal_text refused.line refused.why
+IsTextFor number (Err stops.NoMemory) text = text ≡ []
 
 -- ACCEPTED: a drill of which no event is refused is answered Done or by want of memory
 abbrev pub IsAcceptedDrill : ℕ → Status → Type 0

@@ -19,11 +19,12 @@ use Rattle.eris_rules.specs.Runs.{run}
 use Rattle.eris_rules.specs.Worlds.{WorldState, first_world}
 use Rattle.eris_event.specs.declared.limit.Limit.{Limit}
 use Rattle.eris_event.specs.declared.limit.Limit.TheVariants as limits
-use Rattle.eris_status.specs.declared.refused.Refused.{Refused}
+use Rattle.eris_status.specs.declared.refused.Stop.{Stop}
+use Rattle.eris_status.specs.declared.refused.Stop.TheVariants as stops
 use Rattle.eris_status.specs.declared.refused.Why.{Why}
 use Rattle.eris_status.specs.declared.refused.Why.TheVariants as whys
 use Rattle.eris_run.specs.ScriptRuns.{Ran, after_event, after_events, after_header, after_line, after_lines, after_read, after_said, after_text, outcome, ran_in, told, unless}
-use Rattle.eris_status.specs.Stops.{why_of}
+use Rattle.eris_status.specs.Stops.{stop_for, why_of}
 use Rattle.eris_run.proofs.ScriptLaws.{script_taken}
 use Rattle.eris_drill.specs.DrillLines.{bank, drill_lines}
 use Rattle.eris_drill.specs.DrillText.{drill_text, line_text}
@@ -34,8 +35,8 @@ use Rattle.eris_law_drill_run.proofs.Money.{drill_taken}
 use Rattle.eris_law_drill.proofs.DrillScripts.{drill_cut, drill_is_script, texts_of}
 
 -- the cause is a limit
-abbrev IsLimit : Why → Type 0
-IsLimit why = (limit : Limit) × (why ≡ whys.Limit limit)
+abbrev IsLimit : Option Why → Type 0
+IsLimit found = (limit : Limit) × (found ≡ Some (whys.Limit limit))
 
 -- ---- events
 -- none is refused, or the first that is meets a limit
@@ -78,44 +79,48 @@ taken_back config world [] more all = all
 taken_back config world (event ∷ events) more all = taken_back config (happens config world event) events more all.1
 
 -- ---- lines
-abbrev LineEnds : Result WorldState Why → WorldState → Type 0
+-- a line is refused, and the cause is a limit
+abbrev StopsAtLimit : Stop → Type 0
+StopsAtLimit stop = (line : ℕ) × (limit : Limit) × (stop ≡ stops.Refused (record { line = line; why = whys.Limit limit }))
+
+abbrev LineEnds : Result WorldState Stop → WorldState → Type 0
 LineEnds (Ok next) last = next ≡ last
-LineEnds (Err why) last = IsLimit why
+LineEnds (Err stop) last = StopsAtLimit stop
 
-abbrev LinesEnd : Result WorldState Refused → Type 0
+abbrev LinesEnd : Result WorldState Stop → Type 0
 LinesEnd (Ok next) = ⊤
-LinesEnd (Err refused) = IsLimit refused.why
+LinesEnd (Err stop) = StopsAtLimit stop
 
-told_ends : (found : Result WorldState Refusal) (last : WorldState) → EndsWell found last → LineEnds (told found) last
-told_ends (Ok next) last ends = ends
-told_ends (Err why) last ends = ends
+told_ends : (number : ℕ) (found : Result WorldState Refusal) (last : WorldState) → EndsWell found last → LineEnds (told number found) last
+told_ends number (Ok next) last ends = ends
+told_ends number (Err why) last ends = (number, ends.0, ap (stop_for number) ends.1)
 
-line_ends : (world : WorldState) (said : Line) → IsRead said → AreTaken bank world (events_of said) → LineEnds (after_line 1 bank world (line_text said)) (after_all bank world (events_of said))
+line_ends : (number : ℕ) (world : WorldState) (said : Line) → IsRead said → AreTaken bank world (events_of said) → LineEnds (after_line 1 bank number world (line_text said)) (after_all bank world (events_of said))
 unfolding after_line after_said
-line_ends world said read all =
-    subst (λ (found : Result Line Reason). LineEnds (after_read bank world found) (after_all bank world (events_of said))) (sym read)
-    (told_ends (after_events bank world (events_of said)) (after_all bank world (events_of said)) (events_end bank world (events_of said) all))
+line_ends number world said read all =
+    subst (λ (found : Result Line Reason). LineEnds (after_read bank number world found) (after_all bank world (events_of said))) (sym read)
+    (told_ends number (after_events bank world (events_of said)) (after_all bank world (events_of said)) (events_end bank world (events_of said) all))
 
 lines_end : (number : ℕ) (world : WorldState) (said : List Line) → Each IsRead said → AreTaken bank world (flat_map events_of said) → LinesEnd (after_lines 1 bank number world (texts_of said))
 unfolding after_lines
 lines_end number world [] read all = tt
 lines_end number world (line ∷ said) read all =
-    by_first (after_line 1 bank world (line_text line)) (line_ends world line read.0 (taken_front bank world (events_of line) (flat_map events_of said) all))
+    by_first (after_line 1 bank number world (line_text line)) (line_ends number world line read.0 (taken_front bank world (events_of line) (flat_map events_of said) all))
     (lines_end (number + 1) (after_all bank world (events_of line)) said read.1 (taken_back bank world (events_of line) (flat_map events_of said) all))
   where
-    by_first : (here : Result WorldState Why) → LineEnds here (after_all bank world (events_of line)) → LinesEnd (after_lines 1 bank (number + 1) (after_all bank world (events_of line)) (texts_of said))
-        → LinesEnd (elim here [ Ok next ↦ after_lines 1 bank (number + 1) next (texts_of said) | Err why ↦ Err (record { line = number; why = why }) ])
+    by_first : (here : Result WorldState Stop) → LineEnds here (after_all bank world (events_of line)) → LinesEnd (after_lines 1 bank (number + 1) (after_all bank world (events_of line)) (texts_of said))
+        → LinesEnd (elim here [ Ok next ↦ after_lines 1 bank (number + 1) next (texts_of said) | Err stop ↦ Err stop ])
     by_first (Ok next) first more = subst (λ (now : WorldState). LinesEnd (after_lines 1 bank (number + 1) now (texts_of said))) (sym first) more
-    by_first (Err why) first more = first
+    by_first (Err stop) first more = first
 
 -- ---- the whole script
-abbrev DrillEnds : Result Ran Refused → Type 0
+abbrev DrillEnds : Result Ran Stop → Type 0
 DrillEnds (Ok ran) = ⊤
-DrillEnds (Err refused) = IsLimit refused.why
+DrillEnds (Err stop) = StopsAtLimit stop
 
-ran_ends : (found : Result WorldState Refused) → LinesEnd found → DrillEnds (ran_in bank found)
+ran_ends : (found : Result WorldState Stop) → LinesEnd found → DrillEnds (ran_in bank found)
 ran_ends (Ok next) ends = tt
-ran_ends (Err refused) ends = ends
+ran_ends (Err stop) ends = ends
 
 all_taken : (number : ℕ) → AreTaken bank (first_world bank) (flat_map events_of (drill_lines number))
 unfolding drill_events
@@ -128,8 +133,8 @@ drill_ends number few =
     (subst (λ (read : Result Header Reason). DrillEnds (after_header read (texts_of (drill_lines number)))) (sym header_read)
     (ran_ends (after_lines 1 bank 2 (first_world bank) (texts_of (drill_lines number))) (lines_end 2 (first_world bank) (drill_lines number) (drill_read number few) (all_taken number))))
 
-pub drill_limit : (number : ℕ) → number ≤ 500 → (refused : Refused) → outcome (drill_text number) ≡ Err refused → (limit : Limit) × (refused.why ≡ whys.Limit limit)
-drill_limit number few refused is = subst DrillEnds is (drill_ends number few)
+pub drill_limit : (number : ℕ) → number ≤ 500 → (stop : Stop) → outcome (drill_text number) ≡ Err stop → (line : ℕ) × (limit : Limit) × (stop ≡ stops.Refused (record { line = line; why = whys.Limit limit }))
+drill_limit number few stop is = subst DrillEnds is (drill_ends number few)
 
 -- where it is a world, it is the run's
 same_script : (number : ℕ) (whole : Script) → number ≤ 500 → ◌≡◌ {A = Script} whole (record { config = bank; events = drill_events number }) → (world : WorldState) → run whole.config whole.events ≡ Some world

@@ -18,7 +18,8 @@ ghost use Rattle.eris_law_drill.specs.Reading.{drill_events};
 ghost use Rattle.eris_law_drill_run.specs.Submissions.{drill_submissions, submissions};
 ghost use Rattle.eris_law_drill_run.specs.Takings.{AreTaken};
 ghost use Rattle.eris_event.specs.declared.limit.Limit.{Limit};
-ghost use Rattle.eris_status.specs.declared.refused.Refused.{Refused};
+ghost use Rattle.eris_status.specs.declared.refused.Stop.{Stop};
+ghost use Rattle.eris_status.specs.declared.refused.Stop.TheVariants as stops;
 ghost use Rattle.eris_status.specs.declared.refused.Why.TheVariants as why;
 ghost use Rattle.eris_run.specs.ScriptRuns.{Ran, outcome};
 ghost use Rattle.eris_drill.specs.DrillText.{drill_text};
@@ -57,6 +58,6 @@ pub fn drills_keep_their_money()
 /// cause. The call does nothing; its contract is the law.
 pub fn drills_end()
     ensures ran { (number : ℕ) → number ≤ 500 → (ran : Ran) → outcome (drill_text number) ≡ Ok ran → (ran.config ≡ bank) × (run bank (drill_events number) ≡ Some ran.world) }
-    ensures limit { (number : ℕ) → number ≤ 500 → (refused : Refused) → outcome (drill_text number) ≡ Err refused → (limit : Limit) × (refused.why ≡ why.Limit limit) }
+    ensures limit { (number : ℕ) → number ≤ 500 → (stop : Stop) → outcome (drill_text number) ≡ Err stop → (line : ℕ) × (limit : Limit) × (stop ≡ stops.Refused (record { line = line; why = why.Limit limit })) }
     ensures accepted { (number : ℕ) → number ≤ 500 → (world : WorldState) → run bank (drill_events number) ≡ Some world → outcome (drill_text number) ≡ Ok (record { config = bank; world = world }) }
 {}

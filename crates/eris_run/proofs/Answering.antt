@@ -1,30 +1,30 @@
 -- What is due for bytes says what the statuses promise. Used where the bytes of a script are answered.
-use Rattle.std.proofs.Common.{◌≡◌, inl, inr, ℕ, ◌≤◌, ◌<◌, Bool, true, false, cond, nat_lt, IfOk, Result, Ok, Err, List, length, ap, sym, ◌∙◌, subst, refl, arith}
+use Rattle.std.proofs.Common.{◌≡◌, inl, inr, ℕ, ◌≤◌, ◌<◌, Bool, true, false, cond, nat_lt, IfOk, Result, Ok, Err, List, [], length, ap, sym, ◌∙◌, subst, refl, arith}
 use Rattle.std.proofs.lemmas.Bool.Decides.{nat_tests}
 use Rattle.eris_base.specs.ConfigLimits.{ConfigValue}
 use Rattle.eris_report.specs.ReportText.{report_text}
 use Rattle.eris_rules.specs.Reports.{report_of}
 use Rattle.eris_status.specs.declared.due.Due.{Due}
-use Rattle.eris_status.specs.declared.refused.Refused.{Refused}
+use Rattle.eris_status.specs.declared.refused.Stop.{Stop}
+use Rattle.eris_status.specs.declared.refused.Stop.TheVariants as stops
 use Rattle.eris_status.specs.declared.refused.Why.{Why}
 use Rattle.eris_status.specs.declared.refused.Why.TheVariants as why
 use Rattle.eris_status.specs.declared.status.Status.{Status}
-use Rattle.eris_status.specs.declared.status.Status.TheVariants.{Done, TooLarge}
+use Rattle.eris_status.specs.declared.status.Status.TheVariants.{Done, NoMemory, TooLarge}
 use Rattle.eris_status.specs.Statuses.{HasText, IfBadScript, IfTooLarge, status_of}
 use Rattle.eris_run.specs.Calls.{IsAccepted, RefusesLarge, RefusesLine, ReportsRun, answer_to, input_limit, status_due, status_for, text_due}
 use Rattle.eris_run.specs.Dues.{IsDue, IsJudged}
 use Rattle.eris_run.specs.ScriptRuns.{Ran, outcome}
 use Rattle.eris_status.specs.Texts.{refusal_text, too_large_text}
 use Rattle.eris_run.proofs.Completeness.{done_due}
-use Rattle.eris_run.proofs.FirstRefusals.{first_refused}
-use Rattle.eris_run.proofs.ScriptLaws.{line_above, script_taken}
+use Rattle.eris_run.proofs.FirstRefusals.{first_above, first_refused}
+use Rattle.eris_run.proofs.ScriptLaws.{script_taken}
 
 -- all that a status and a text that are due say of the bytes
 record Says (bytes text : List ℕ) (status : Status) : Type 0 where
   done : status ≡ Done → ReportsRun bytes text
   bad_script : IfBadScript status (RefusesLine bytes text)
   too_large : IfTooLarge status (RefusesLarge bytes text)
-  has_text : HasText status
 
 module _ (bytes : List ℕ) where
   input_refused : input_limit < length bytes → Says bytes too_large_text (TooLarge 0)
@@ -33,7 +33,6 @@ module _ (bytes : List ℕ) where
         done = λ same. absurd cc;
         bad_script = tt;
         too_large = inl (refl, record { past = past; is = refl });
-        has_text = tt;
       }
 
   run_reported : (ran : Ran) → length bytes ≤ input_limit → outcome bytes ≡ Ok ran → Says bytes (report_text (report_of ran.config ran.world)) Done
@@ -50,44 +49,40 @@ module _ (bytes : List ℕ) where
         };
         bad_script = tt;
         too_large = tt;
-        has_text = tt;
       }
 
-  line_refused : (line : ℕ) (why : Why) → length bytes ≤ input_limit → outcome bytes ≡ Err (record { line = line; why = why }) → Says bytes (refusal_text line why) (status_of line why)
+  line_refused : (line : ℕ) (why : Why) → length bytes ≤ input_limit → outcome bytes ≡ Err (stops.Refused (record { line = line; why = why })) → Says bytes (refusal_text line why) (status_of line why)
   line_refused line (why.Reason reason) within is =
       record {
         done = λ same. absurd cc;
         bad_script = record { within = within; first = first_refused bytes (record { line = line; why = why.Reason reason }) is; refused = is; is = refl };
         too_large = tt;
-        has_text = tt;
       }
   line_refused line (why.Limit limit) within is =
+      let first = first_refused bytes (record { line = line; why = why.Limit limit }) is in
       record {
         done = λ same. absurd cc;
         bad_script = tt;
-        too_large = inr (record {
-          above = line_above bytes (record { line = line; why = why.Limit limit }) is;
-          within = within;
-          limit = limit;
-          first = first_refused bytes (record { line = line; why = why.Limit limit }) is;
-          refused = is;
-          is = refl;
-        });
-        has_text = tt;
+        too_large = inr (record { above = first_above bytes line (why.Limit limit) first; within = within; limit = limit; first = first; refused = is; is = refl });
       }
 
-  says : (large : Bool) (found : Result Ran Refused) → nat_lt input_limit (length bytes) ≡ large → outcome bytes ≡ found
+  -- of want of memory the status says nothing
+  none_said : Says bytes [] NoMemory
+  none_said = record { done = λ same. absurd cc; bad_script = tt; too_large = tt }
+
+  says : (large : Bool) (found : Result Ran Stop) → nat_lt input_limit (length bytes) ≡ large → outcome bytes ≡ found
       → Says bytes (cond large too_large_text (answer_to found)) (cond large (TooLarge 0) (status_for found))
   says true found size is = input_refused (grind (arith, nat_tests))
   says false (Ok ran) size is = run_reported ran (grind (arith, nat_tests)) is
-  says false (Err refused) size is = line_refused refused.line refused.why (grind (arith, nat_tests)) is
+  says false (Err (stops.Refused refused)) size is = line_refused refused.line refused.why (grind (arith, nat_tests)) is
+  says false (Err stops.NoMemory) size is = none_said
 
   accepted : (status : Status) → status ≡ status_due bytes → IsAccepted bytes status
   accepted status due = λ whole world within is ran. inl (due ∙ done_due bytes whole world within is ran)
 
   -- THE STATUS AND THE TEXT THAT ARE DUE
-  is_due : (due : Due) → due.status ≡ status_due bytes → due.text ≡ text_due bytes → IsDue bytes due
-  is_due due status text =
+  is_due : (due : Due) → due.status ≡ status_due bytes → due.text ≡ text_due bytes → HasText due.status → IsDue bytes due
+  is_due due status text has_text =
       let all = subst (λ (some : Status). Says bytes due.text some) (sym status)
       (subst (λ (some : List ℕ). Says bytes some (status_due bytes)) (sym text) (says (nat_lt input_limit (length bytes)) (outcome bytes) refl refl)) in
       record {
@@ -97,7 +92,7 @@ module _ (bytes : List ℕ) where
         bad_script = all.bad_script;
         too_large = all.too_large;
         accepted = accepted due.status status;
-        has_text = all.has_text;
+        has_text = has_text;
       }
 
   pub input_due : (due : Due) → input_limit < length bytes → due.status ≡ TooLarge 0 → due.text ≡ too_large_text → IsDue bytes due
@@ -106,6 +101,7 @@ module _ (bytes : List ℕ) where
       is_due due
       (status ∙ sym (ap (λ (one : Bool). cond one (TooLarge 0) (status_for (outcome bytes))) large))
       (text ∙ sym (ap (λ (one : Bool). cond one too_large_text (answer_to (outcome bytes))) large))
+      (subst HasText (sym status) tt)
 
   pub script_judged : (due : Due) → length bytes ≤ input_limit → IsJudged bytes due → IsDue bytes due
   script_judged due within judged =
@@ -113,6 +109,7 @@ module _ (bytes : List ℕ) where
       is_due due
       (judged.status ∙ sym (ap (λ (one : Bool). cond one (TooLarge 0) (status_for (outcome bytes))) small))
       (judged.text ∙ sym (ap (λ (one : Bool). cond one too_large_text (answer_to (outcome bytes))) small))
+      judged.has_text
 
   -- ---- and so for what a call answers
   pub inputs_due : {E : Type 0} (result : Result Due E) → input_limit < length bytes → IfOk result (λ due. (due.status ≡ TooLarge 0) × (due.text ≡ too_large_text)) → IfOk result (IsDue bytes)

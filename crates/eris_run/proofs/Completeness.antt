@@ -16,8 +16,7 @@ use Rattle.eris_rules.specs.Refusals.{refusal}
 use Rattle.eris_rules.specs.Runs.{run, run_from, taken_by, world_after}
 use Rattle.eris_rules.specs.Worlds.{WorldState, first_world}
 use Rattle.eris_rules.proofs.RunLaws.{none_run}
-use Rattle.eris_status.specs.declared.refused.Refused.{Refused}
-use Rattle.eris_status.specs.declared.refused.Why.{Why}
+use Rattle.eris_status.specs.declared.refused.Stop.{Stop}
 use Rattle.eris_status.specs.declared.status.Status.TheVariants.{Done, TooLarge}
 use Rattle.eris_run.specs.Calls.{input_limit, status_due, status_for}
 use Rattle.eris_run.specs.ScriptRuns.{after_event, after_events, after_header, after_line, after_lines, after_read, after_said, after_text, outcome, ran_in, told, unless}
@@ -59,9 +58,9 @@ between config w v (event ∷ xs) ys ran = of_first (after_event config w event)
     of_first (Err why) is later same = absurd cc
 
 -- ---- lines whose events are taken are
-line_runs : (version : ℕ) (config : ConfigValue) (w next : WorldState) (text : List ℕ) (said : Line) → line_of version text ≡ Ok said → after_events config w (events_of said) ≡ Ok next → after_line version config w text ≡ Ok next
+line_runs : (version : ℕ) (config : ConfigValue) (number : ℕ) (w next : WorldState) (text : List ℕ) (said : Line) → line_of version text ≡ Ok said → after_events config w (events_of said) ≡ Ok next → after_line version config number w text ≡ Ok next
 unfolding after_line after_said
-line_runs version config w next text said read ran = ap (after_read config w) read ∙ ap told ran
+line_runs version config number w next text said read ran = ap (after_read config number w) read ∙ ap (told number) ran
 
 record Read (events : List Event) (first : List Event) (rest : Result (List Event) BadLine) : Type 0 where
   more : List Event
@@ -85,12 +84,12 @@ lines_run version config number w v (text ∷ texts) events says ran = of_read (
     of_read : (read : Result Line Reason) → line_of version text ≡ read
         → ((next : WorldState) (more : List Event) → events_from version (number + 1) texts ≡ Ok more → after_events config next more ≡ Ok v → after_lines version config (number + 1) next texts ≡ Ok v)
         → ◌≡◌ {A = Result (List Event) BadLine} (elim read as (λ _. Result (List Event) BadLine) [ Ok said ↦ with_events (events_of said) (events_from version (number + 1) texts) | Err why ↦ Err (record { line = number; reason = why }) ]) (Ok events)
-        → (elim (after_line version config w text) as (λ _. Result WorldState Refused) [ Ok next ↦ after_lines version config (number + 1) next texts | Err why ↦ Err (record { line = number; why = why }) ]) ≡ Ok v
+        → (elim (after_line version config number w text) as (λ _. Result WorldState Stop) [ Ok next ↦ after_lines version config (number + 1) next texts | Err stop ↦ Err stop ]) ≡ Ok v
     of_read (Ok said) is later same =
         let parts = read_in events (events_of said) (events_from version (number + 1) texts) same in
         let cut = between config w v (events_of said) parts.more (subst (λ (some : List Event). after_events config w some ≡ Ok v) parts.joined ran) in
-        ap (λ (here : Result WorldState Why). elim here as (λ _. Result WorldState Refused) [ Ok next ↦ after_lines version config (number + 1) next texts | Err why ↦ Err (record { line = number; why = why }) ])
-        (line_runs version config w cut.middle text said is cut.first)
+        ap (λ (here : Result WorldState Stop). elim here as (λ _. Result WorldState Stop) [ Ok next ↦ after_lines version config (number + 1) next texts | Err stop ↦ Err stop ])
+        (line_runs version config number w cut.middle text said is cut.first)
         ∙ later cut.middle parts.more parts.is cut.second
     of_read (Err why) is later same = absurd cc
 

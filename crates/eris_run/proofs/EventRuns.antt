@@ -11,7 +11,6 @@ use Rattle.eris_grammar.specs.declared.line.Line.{Line}
 use Rattle.eris_grammar.specs.declared.line.Line.TheVariants as line
 use Rattle.eris_event.specs.EventRanges.{fits_event}
 use Rattle.eris_grammar.specs.LineForms.{line_of}
-use Rattle.eris_grammar.specs.Scripts.{events_of}
 use Rattle.eris_grammar.proofs.SpellingLaws.{read_as_spelled}
 use Rattle.eris_event.specs.declared.refusal.Refusal.{Refusal}
 use Rattle.eris_event.specs.declared.refusal.Refusal.TheVariants as refusals
@@ -23,12 +22,11 @@ use Rattle.eris_rules.specs.Worlds.{WorldState, first_world}
 use Rattle.eris_sequencer.specs.Sequencers.{first_stampings, newest_of}
 use Rattle.eris_world.specs.WorldValues.{CanGoOn, EventFits, HasRoom, IsCause, WorldValue}
 use Rattle.eris_world.proofs.Events.{second_none}
-use Rattle.eris_status.specs.declared.refused.Refused.{Refused}
 use Rattle.eris_status.specs.declared.refused.Stop.{Stop}
-use Rattle.eris_status.specs.declared.refused.Stop.TheVariants as stop
-use Rattle.eris_run.specs.LineRuns.{IfRefused, IsFine, LineFits, Refuses, RefusesSaid, Takes, TakesSaid, begins, begun, cost, submissions}
-use Rattle.eris_status.specs.Stops.{stop_at, why_of}
-use Rattle.eris_run.specs.ScriptRuns.{after_event, after_events, after_said, told, unless}
+use Rattle.eris_status.specs.declared.refused.Stop.TheVariants as stops
+use Rattle.eris_run.specs.LineRuns.{IsFine, IsStopOf, LineFits, Takes, begins, begun, cost, submissions}
+use Rattle.eris_status.specs.Stops.{stop_at}
+use Rattle.eris_run.specs.ScriptRuns.{after_event, after_events, told, unless}
 use Rattle.eris_run.proofs.BegunLaws.{event_adds, small_cost}
 
 -- ---- room for one more event
@@ -83,11 +81,10 @@ takes_event before after event fine took stays =
       few = one.few;
     }
 
-refuses_one : (before : WorldValue) (event : Event) (number : ℕ) (why : Refusal) → refusal before.config before.state event ≡ Some why → Refuses before (event ∷ []) number (record { line = number; why = why_of why })
-refuses_one before event number why found =
-    record { cause = why; found = one_err before.config before.state event [] why (refused_after before.config before.state event why found); told = refl }
+refuses_one : (before : WorldValue) (event : Event) (number : ℕ) (why : Refusal) → refusal before.config before.state event ≡ Some why → told number (after_events before.config before.state (event ∷ [])) ≡ Err (stop_at number why)
+refuses_one before event number why found = ap (told number) (one_err before.config before.state event [] why (refused_after before.config before.state event why found))
 
-pub refuses_event : (before : WorldValue) (event : Event) (number : ℕ) (why : Refusal) → IsCause before.config before.state event why → IfRefused (stop_at number why) (Refuses before (event ∷ []) number)
+pub refuses_event : (before : WorldValue) (event : Event) (number : ℕ) (why : Refusal) → IsCause before.config before.state event why → IsStopOf (told number (after_events before.config before.state (event ∷ []))) (stop_at number why)
 refuses_event before event number refusals.NoMemory found = tt
 refuses_event before event number why found = refuses_one before event number why found
 
@@ -162,73 +159,50 @@ pub losses_rest : {a b : WorldValue} (n times : ℕ) → Takes a b (replicate n 
 losses_rest {a} {b} n times run within none = takes_rest Lose n times (idle_loss b.config b.state (none_first _ none) run.fine.within) run within
 
 -- one of them is refused
-refused_rest : (config : ConfigValue) (w : WorldState) (event : Event) (n : ℕ) (why : Refusal) → 0 < n → after_events config w (event ∷ []) ≡ Err why → after_events config w (replicate n event) ≡ Err why
+refused_rest : (config : ConfigValue) (w : WorldState) (event : Event) (n number : ℕ) (stop : Stop) → 0 < n
+    → told number (after_events config w (event ∷ [])) ≡ Err stop → told number (after_events config w (replicate n event)) ≡ Err stop
 unfolding after_events
-refused_rest config w event zero why some refused = absurd (omega arith)
-refused_rest config w event (suc n) why some refused = of_first (after_event config w event) refused
+refused_rest config w event zero number stop some refused = absurd (omega arith)
+refused_rest config w event (suc n) number stop some refused = of_first (after_event config w event) refused
   where
-    of_first : (first : Result WorldState Refusal) → ◌≡◌ {A = Result WorldState Refusal} (elim first as (λ _. Result WorldState Refusal) [ Ok next ↦ Ok next | Err why ↦ Err why ]) (Err why)
-        → ◌≡◌ {A = Result WorldState Refusal} (elim first as (λ _. Result WorldState Refusal) [ Ok next ↦ after_events config next (replicate n event) | Err why ↦ Err why ]) (Err why)
+    of_first : (first : Result WorldState Refusal) → told number (elim first as (λ _. Result WorldState Refusal) [ Ok next ↦ Ok next | Err why ↦ Err why ]) ≡ Err stop
+        → told number (elim first as (λ _. Result WorldState Refusal) [ Ok next ↦ after_events config next (replicate n event) | Err why ↦ Err why ]) ≡ Err stop
     of_first (Ok next) found = absurd cc
-    of_first (Err other) found = found
+    of_first (Err why) found = found
+
+refused_again : {a b : WorldValue} (event : Event) (n times number : ℕ) (stop : Stop) → Takes a b (replicate n event) 0 → n < times
+    → told number (after_events b.config b.state (event ∷ [])) ≡ Err stop → told number (after_events a.config a.state (replicate times event)) ≡ Err stop
+refused_again {a} {b} event n times number stop run within found =
+    let all : times ≡ n + (times - n) = omega arith in
+    ap (λ (some : List Event). told number (after_events a.config a.state some)) (ap (λ (count : ℕ). replicate count event) all ∙ split n (times - n) event)
+    ∙ ap (told number) (after_append a.config a.state b.state (replicate n event) (replicate (times - n) event) run.ran)
+    ∙ subst (λ (config : ConfigValue). told number (after_events config b.state (replicate (times - n) event)) ≡ Err stop) run.same
+    (refused_rest b.config b.state event (times - n) number stop (omega arith) found)
 
 pub refuses_again : {a b : WorldValue} (event : Event) (n times number : ℕ) (stop : Stop) → Takes a b (replicate n event) 0 → n < times
-    → IfRefused stop (Refuses b (event ∷ []) number) → IfRefused stop (Refuses a (replicate times event) number)
-refuses_again {a} {b} event n times number (stop.Refused refused) run within found =
-    let all : times ≡ n + (times - n) = omega arith in
-    record {
-      cause = found.cause;
-      found =
-          rw all (rw (split n (times - n) event)
-          (after_append a.config a.state b.state (replicate n event) (replicate (times - n) event) run.ran
-          ∙ subst (λ (config : ConfigValue). after_events config b.state (replicate (times - n) event) ≡ Err found.cause) run.same
-          (refused_rest b.config b.state event (times - n) found.cause (omega arith) found.found)));
-      told = found.told;
-    }
-refuses_again {a} {b} event n times number stop.NoMemory run within found = tt
+    → IsStopOf (told number (after_events b.config b.state (event ∷ []))) stop → IsStopOf (told number (after_events a.config a.state (replicate times event))) stop
+refuses_again {a} {b} event n times number (stops.Refused refused) run within found = refused_again event n times number (stops.Refused refused) run within found
+refuses_again {a} {b} event n times number stops.NoMemory run within found = tt
 
 -- ---- what a line says
-takes_said : (before after : WorldValue) (said : Line) (most : ℕ) → Takes before after (events_of said) most → most ≤ 1 → TakesSaid before after said
-unfolding after_said
-takes_said before after said most took small = record {
-  ran = ap told took.ran;
+at_most_one : (before after : WorldValue) (events : List Event) (most : ℕ) → Takes before after events most → most ≤ 1 → Takes before after events 1
+at_most_one before after events most took small = record {
+  ran = took.ran;
   same = took.same;
   fine = took.fine;
   few = let few = took.few in omega arith;
 }
 
-refuses_said : (before : WorldValue) (said : Line) (number : ℕ) (stop : Stop) → IfRefused stop (Refuses before (events_of said) number) → IfRefused stop (RefusesSaid before said number)
-unfolding after_said
-refuses_said before said number (stop.Refused refused) found =
-    let same = found.told in
-    record {
-      found = ap told found.found ∙ ap (λ (r : Refused). Err r.why) (sym same);
-      here = ap (λ (r : Refused). r.line) same;
-    }
-refuses_said before said number stop.NoMemory found = tt
+pub said_nothing : (world : WorldValue) → IsFine world → Takes world world [] 1
+said_nothing world fine = at_most_one world world [] 0 (takes_none fine) (omega arith)
 
-pub said_nothing : (world : WorldValue) → IsFine world → TakesSaid world world line.Skip
-said_nothing world fine = takes_said world world line.Skip 0 (takes_none fine) (omega arith)
+pub said_one : (before after : WorldValue) (event : Event) → Takes before after (event ∷ []) (cost event) → Takes before after (event ∷ []) 1
+said_one before after event took = at_most_one before after (event ∷ []) (cost event) took (small_cost event)
 
-pub said_one : (before after : WorldValue) (event : Event) → Takes before after (event ∷ []) (cost event) → TakesSaid before after (line.One event)
-said_one before after event took = takes_said before after (line.One event) (cost event) took (small_cost event)
+pub said_many : (before after : WorldValue) (events : List Event) → Takes before after events 0 → Takes before after events 1
+said_many before after events took = at_most_one before after events 0 took (omega arith)
 
-pub said_flow : (before after : WorldValue) (times : ℕ) → Takes before after (replicate times Flow) 0 → TakesSaid before after (line.Flow times)
-said_flow before after times took = takes_said before after (line.Flow times) 0 took (omega arith)
-
-pub said_lose : (before after : WorldValue) (times : ℕ) → Takes before after (replicate times Lose) 0 → TakesSaid before after (line.Lose times)
-said_lose before after times took = takes_said before after (line.Lose times) 0 took (omega arith)
-
-pub refused_one : (before : WorldValue) (event : Event) (number : ℕ) (stop : Stop) → IfRefused stop (Refuses before (event ∷ []) number) → IfRefused stop (RefusesSaid before (line.One event) number)
-refused_one before event number stop found = refuses_said before (line.One event) number stop found
-
-pub refused_flow : (before : WorldValue) (times number : ℕ) (stop : Stop) → IfRefused stop (Refuses before (replicate times Flow) number) → IfRefused stop (RefusesSaid before (line.Flow times) number)
-refused_flow before times number stop found = refuses_said before (line.Flow times) number stop found
-
-pub refused_lose : (before : WorldValue) (times number : ℕ) (stop : Stop) → IfRefused stop (Refuses before (replicate times Lose) number) → IfRefused stop (RefusesSaid before (line.Lose times) number)
-refused_lose before times number stop found = refuses_said before (line.Lose times) number stop found
-
-pub ruleset sayings = (said_nothing, said_one, said_flow, said_lose, refused_one, refused_flow, refused_lose)
+pub ruleset sayings = (said_nothing, said_one, said_many)
 
 -- ---- what is read is in the grammar's ranges
 of_version : (version : ℕ) (event : Event) → (version ≡ 1) ⊎ (version ≡ 2) → IsTrue (fits_event version event) → EventFits event

@@ -9,21 +9,20 @@ use Rattle.eris_grammar.specs.Headers.{header_of}
 use Rattle.eris_rules.specs.Worlds.{WorldState, first_world}
 use Rattle.eris_world.specs.WorldValues.{WorldValue}
 use Rattle.eris_status.specs.declared.refused.Stop.{Stop}
-use Rattle.eris_status.specs.declared.refused.Stop.TheVariants as stop
-use Rattle.eris_status.specs.declared.refused.Why.{Why}
+use Rattle.eris_status.specs.declared.refused.Stop.TheVariants as stops
 use Rattle.eris_status.specs.declared.refused.Why.TheVariants as whys
-use Rattle.eris_run.specs.LineRuns.{IfRefused, IsAfterScript, IsFine, RefusesAt, RefusesOne, TakesLine, TakesLines, begins, begun}
+use Rattle.eris_run.specs.LineRuns.{IsAfterScript, IsFine, IsStopOf, TakesLine, TakesLines, begins, begun}
 use Rattle.eris_run.specs.ScriptRuns.{after_header, after_line, after_lines, after_text, outcome, ran_in}
 
-at_taken : (version : ℕ) (config : ConfigValue) (number : ℕ) (w next : WorldState) (text : List ℕ) (texts : List (List ℕ)) → after_line version config w text ≡ Ok next →
+at_taken : (version : ℕ) (config : ConfigValue) (number : ℕ) (w next : WorldState) (text : List ℕ) (texts : List (List ℕ)) → after_line version config number w text ≡ Ok next →
     after_lines version config number w (text ∷ texts) ≡ after_lines version config (number + 1) next texts
 unfolding after_lines
 at_taken version config number w next text texts ran = rw (ran, after_lines) refl
 
-at_refused : (version : ℕ) (config : ConfigValue) (number : ℕ) (w : WorldState) (text : List ℕ) (texts : List (List ℕ)) (why : Why) → after_line version config w text ≡ Err why →
-    after_lines version config number w (text ∷ texts) ≡ Err (record { line = number; why = why })
+at_refused : (version : ℕ) (config : ConfigValue) (number : ℕ) (w : WorldState) (text : List ℕ) (texts : List (List ℕ)) (stop : Stop) → after_line version config number w text ≡ Err stop →
+    after_lines version config number w (text ∷ texts) ≡ Err stop
 unfolding after_lines
-at_refused version config number w text texts why refused = rw (refused, after_lines) refl
+at_refused version config number w text texts stop refused = rw (refused, after_lines) refl
 
 at_end : (version : ℕ) (config : ConfigValue) (number : ℕ) (w : WorldState) → after_lines version config number w (lines []) ≡ Ok w
 unfolding after_lines cut_lines
@@ -44,11 +43,11 @@ none_run version before text fine = record { same = refl; config = refl; fine = 
 -- the first line of the rest was taken
 pub one_more_run : {version : ℕ} {before now next : WorldValue} {text rest line : List ℕ} {number : ℕ} (more : List ℕ)
     → HasRun version before now text rest number → lines rest ≡ line ∷ lines more → length more < length rest
-    → TakesLine version now next line → HasRun version before next text more (number + 1)
+    → TakesLine version number now next line → HasRun version before next text more (number + 1)
 one_more_run {version} {before} {now} {next} {text} {rest} {line} {number} more run first shorter took = record {
   same =
       run.same ∙ ap (after_lines version before.config number now.state) first
-      ∙ at_taken version before.config number now.state next.state line (lines more) (subst (λ (config : ConfigValue). after_line version config now.state line ≡ Ok next.state) run.config took.ran);
+      ∙ at_taken version before.config number now.state next.state line (lines more) (subst (λ (config : ConfigValue). after_line version config number now.state line ≡ Ok next.state) run.config took.ran);
   config = took.same ∙ run.config;
   fine = took.fine;
   few = let few = run.few in let one = took.few in omega arith;
@@ -65,13 +64,13 @@ all_run {version} {before} {now} {text} {rest} {number} run none = record {
 
 -- the first line of the rest is refused
 pub bad_stop : {version : ℕ} {before now : WorldValue} {text rest line : List ℕ} {number : ℕ} (stop : Stop) (more : List ℕ)
-    → HasRun version before now text rest number → lines rest ≡ line ∷ lines more → IfRefused stop (RefusesAt version now line number)
-    → IfRefused stop (RefusesOne version before text)
-bad_stop {version} {before} {now} {text} {rest} {line} {number} (stop.Refused refused) more run first bad =
+    → HasRun version before now text rest number → lines rest ≡ line ∷ lines more → IsStopOf (after_line version now.config number now.state line) stop
+    → IsStopOf (after_lines version before.config 2 before.state (lines text)) stop
+bad_stop {version} {before} {now} {text} {rest} {line} {number} (stops.Refused refused) more run first bad =
     run.same ∙ ap (after_lines version before.config number now.state) first
-    ∙ at_refused version before.config number now.state line (lines more) refused.why (subst (λ (config : ConfigValue). after_line version config now.state line ≡ Err refused.why) run.config bad.found)
-    ∙ ap (λ (at : ℕ). Err (record { line = at; why = refused.why })) (sym bad.here)
-bad_stop stop.NoMemory more run first bad = tt
+    ∙ at_refused version before.config number now.state line (lines more) (stops.Refused refused)
+    (subst (λ (config : ConfigValue). after_line version config number now.state line ≡ Err (stops.Refused refused)) run.config bad)
+bad_stop stops.NoMemory more run first bad = tt
 
 -- this is the first line of a text, and the rest
 pub record IsFirst (text line rest : List ℕ) : Type 0 where
@@ -94,7 +93,7 @@ by_header [] line rest first =
 by_header (byte ∷ bytes) line rest first = ap after_text (first.some (omega arith))
 
 -- without the header there is no script
-pub without_header : {text line rest : List ℕ} {why : Reason} → IsFirst text line rest → header_of line ≡ Err why → outcome text ≡ Err (record { line = 1; why = whys.Reason why })
+pub without_header : {text line rest : List ℕ} {why : Reason} → IsFirst text line rest → header_of line ≡ Err why → outcome text ≡ Err (stops.Refused (record { line = 1; why = whys.Reason why }))
 without_header {text} {line} {rest} {why} first is_none = by_header text line rest first ∙ ap (λ (read : Result Header Reason). after_header read (lines rest)) is_none
 
 -- behind the header the script is its lines
@@ -106,17 +105,12 @@ from_start : (version : ℕ) (config : ConfigValue) (world : WorldValue) (rest :
     → after_lines version world.config 2 world.state (lines rest) ≡ after_lines version config 2 (first_world config) (lines rest)
 from_start version config world rest fresh = ap (λ (w : WorldValue). after_lines version w.config 2 w.state (lines rest)) fresh
 
-from_begins : (version : ℕ) (config : ConfigValue) (world : WorldValue) (rest : List ℕ) → world ≡ begins config
-    → after_lines version world.config 2 world.state (lines rest) ≡ after_lines version (begins config).config 2 (begins config).state (lines rest)
-from_begins version config world rest fresh = ap (λ (w : WorldValue). after_lines version w.config 2 w.state (lines rest)) fresh
-
 -- what was refused behind the header is refused of the script
-pub refused_behind : (text rest : List ℕ) (header : Header) {before : WorldValue} (stop : Stop) → before ≡ begins header.config
+refused_behind : (text rest : List ℕ) (header : Header) (stop : Stop)
     → outcome text ≡ ran_in header.config (after_lines header.version header.config 2 (first_world header.config) (lines rest))
-    → IfRefused stop (RefusesOne header.version before rest) → IfRefused stop (λ refused. outcome text ≡ Err refused)
-refused_behind text rest header {before} (stop.Refused refused) fresh same found =
-    same ∙ ap (ran_in header.config) (sym (from_start header.version header.config before rest fresh) ∙ found)
-refused_behind text rest header {before} stop.NoMemory fresh same found = tt
+    → IsStopOf (after_lines header.version header.config 2 (first_world header.config) (lines rest)) stop → IsStopOf (outcome text) stop
+refused_behind text rest header (stops.Refused refused) same found = same ∙ ap (ran_in header.config) found
+refused_behind text rest header stops.NoMemory same found = tt
 
 -- the lines behind the header were taken, from the start
 pub after_script : {text rest : List ℕ} {header : Header} {before world : WorldValue} → before ≡ begins header.config
@@ -137,9 +131,9 @@ pub taken_from_start : {version : ℕ} {config : ConfigValue} {rest : List ℕ} 
 taken_from_start {version} {config} {rest} {before} {world} fresh took = subst (λ (w : WorldValue). TakesLines version w world rest) fresh took
 
 pub refused_from_start : (version : ℕ) (rest : List ℕ) {config : ConfigValue} {before : WorldValue} (stop : Stop) → before ≡ begins config
-    → IfRefused stop (RefusesOne version before rest) → IfRefused stop (RefusesOne version (begins config) rest)
-refused_from_start version rest {config} {before} (stop.Refused refused) fresh found = sym (from_begins version config before rest fresh) ∙ found
-refused_from_start version rest {config} {before} stop.NoMemory fresh found = tt
+    → IsStopOf (after_lines version before.config 2 before.state (lines rest)) stop → IsStopOf (after_lines version config 2 (first_world config) (lines rest)) stop
+refused_from_start version rest {config} {before} (stops.Refused refused) fresh found = sym (from_start version config before rest fresh) ∙ found
+refused_from_start version rest {config} {before} stops.NoMemory fresh found = tt
 
 -- so is the script
 pub script_taken_so : (text rest : List ℕ) (header : Header) (result : Result WorldValue Stop)
@@ -150,7 +144,6 @@ script_taken_so text rest header (Err stop) same took = tt
 
 pub script_refused_so : (text rest : List ℕ) (header : Header) (result : Result WorldValue Stop)
     → outcome text ≡ ran_in header.config (after_lines header.version header.config 2 (first_world header.config) (lines rest))
-    → IfErr result (λ (stop : Stop). IfRefused stop (RefusesOne header.version (begins header.config) rest))
-    → IfErr result (λ (stop : Stop). IfRefused stop (λ refused. outcome text ≡ Err refused))
+    → IfErr result (IsStopOf (after_lines header.version header.config 2 (first_world header.config) (lines rest))) → IfErr result (IsStopOf (outcome text))
 script_refused_so text rest header (Ok world) same found = tt
-script_refused_so text rest header (Err stop) same found = refused_behind text rest header stop refl same found
+script_refused_so text rest header (Err stop) same found = refused_behind text rest header stop same found

@@ -1,6 +1,5 @@
--- A script that runs to its end is one of the grammar, and its events lead to the world that is left. And what is refused behind
--- the header has a line above the first.
-use Rattle.std.proofs.Common.{◌≡◌, ℕ, ◌+◌, ◌<◌, Option, Some, None, Result, Ok, Err, List, [], ◌∷◌, ◌++◌, ap, sym, ◌∙◌, refl, subst, arith}
+-- A script that runs to its end is one of the grammar, and its events lead to the world that is left.
+use Rattle.std.proofs.Common.{◌≡◌, ℕ, ◌+◌, Option, Some, None, Result, Ok, Err, List, [], ◌∷◌, ◌++◌, ap, sym, ◌∙◌, refl}
 use Rattle.eris_base.specs.ConfigLimits.{ConfigValue}
 use Rattle.eris_event.specs.declared.event.Event.{Event}
 use Rattle.eris_grammar.specs.declared.header.Header.{Header}
@@ -16,8 +15,7 @@ use Rattle.eris_rules.specs.Refusals.{refusal}
 use Rattle.eris_rules.specs.Runs.{run, run_from, taken_by, world_after}
 use Rattle.eris_rules.specs.Worlds.{WorldState, first_world}
 use Rattle.eris_world.specs.WorldValues.{WorldValue}
-use Rattle.eris_status.specs.declared.refused.Refused.{Refused}
-use Rattle.eris_status.specs.declared.refused.Why.{Why}
+use Rattle.eris_status.specs.declared.refused.Stop.{Stop}
 use Rattle.eris_run.specs.LineRuns.{IsAfterScript, IsWorldOf}
 use Rattle.eris_run.specs.ScriptRuns.{Ran, after_event, after_events, after_header, after_line, after_lines, after_read, after_said, after_text, outcome, ran_in, told, unless}
 use Rattle.eris_run.proofs.EventRuns.{after_append}
@@ -44,21 +42,21 @@ ran_is config w v (event ∷ events) ran = of_first (after_event config w event)
     of_first (Err why) is rest later = absurd cc
 
 -- ---- lines that were taken say events that were
-told_ok : (ran : Result WorldState Refusal) (v : WorldState) → told ran ≡ Ok v → ran ≡ Ok v
-told_ok (Ok next) v same = let is : next ≡ v = cc in ap (λ (w : WorldState). Ok w) is
-told_ok (Err why) v same = absurd cc
+told_ok : (number : ℕ) (ran : Result WorldState Refusal) (v : WorldState) → told number ran ≡ Ok v → ran ≡ Ok v
+told_ok number (Ok next) v same = let is : next ≡ v = cc in ap (λ (w : WorldState). Ok w) is
+told_ok number (Err why) v same = absurd cc
 
 pub record LineTaken (version : ℕ) (config : ConfigValue) (w v : WorldState) (text : List ℕ) : Type 0 where
   pub said : Line
   pub says : line_of version text ≡ Ok said
   pub ran : after_events config w (events_of said) ≡ Ok v
 
-pub line_taken : (version : ℕ) (config : ConfigValue) (w v : WorldState) (text : List ℕ) → after_line version config w text ≡ Ok v → LineTaken version config w v text
+pub line_taken : (version : ℕ) (config : ConfigValue) (number : ℕ) (w v : WorldState) (text : List ℕ) → after_line version config number w text ≡ Ok v → LineTaken version config w v text
 unfolding after_line after_said
-line_taken version config w v text took = of_read (line_of version text) refl took
+line_taken version config number w v text took = of_read (line_of version text) refl took
   where
-    of_read : (read : Result Line Reason) → line_of version text ≡ read → after_read config w read ≡ Ok v → LineTaken version config w v text
-    of_read (Ok said) is ran = record { said = said; says = is; ran = told_ok (after_events config w (events_of said)) v ran }
+    of_read : (read : Result Line Reason) → line_of version text ≡ read → after_read config number w read ≡ Ok v → LineTaken version config w v text
+    of_read (Ok said) is ran = record { said = said; says = is; ran = told_ok number (after_events config w (events_of said)) v ran }
     of_read (Err reason) is ran = absurd cc
 
 record LinesTaken (version : ℕ) (config : ConfigValue) (number : ℕ) (w v : WorldState) (texts : List (List ℕ)) : Type 0 where
@@ -69,14 +67,14 @@ record LinesTaken (version : ℕ) (config : ConfigValue) (number : ℕ) (w v : W
 lines_taken : (version : ℕ) (config : ConfigValue) (number : ℕ) (w v : WorldState) (texts : List (List ℕ)) → after_lines version config number w texts ≡ Ok v → LinesTaken version config number w v texts
 unfolding after_lines events_from after_events
 lines_taken version config number w v [] took = let same : w ≡ v = cc in record { events = []; says = refl; ran = ap (λ (z : WorldState). Ok z) same }
-lines_taken version config number w v (text ∷ texts) took = of_line (after_line version config w text) refl (λ next. lines_taken version config (number + 1) next v texts) took
+lines_taken version config number w v (text ∷ texts) took = of_line (after_line version config number w text) refl (λ next. lines_taken version config (number + 1) next v texts) took
   where
-    of_line : (here : Result WorldState Why) → after_line version config w text ≡ here
+    of_line : (here : Result WorldState Stop) → after_line version config number w text ≡ here
         → ((next : WorldState) → after_lines version config (number + 1) next texts ≡ Ok v → LinesTaken version config (number + 1) next v texts)
-        → (elim here as (λ _. Result WorldState Refused) [ Ok next ↦ after_lines version config (number + 1) next texts | Err why ↦ Err (record { line = number; why = why }) ]) ≡ Ok v
+        → (elim here as (λ _. Result WorldState Stop) [ Ok next ↦ after_lines version config (number + 1) next texts | Err stop ↦ Err stop ]) ≡ Ok v
         → LinesTaken version config number w v (text ∷ texts)
     of_line (Ok next) is later found =
-        let one = line_taken version config w next text is in
+        let one = line_taken version config number w next text is in
         let rest = later next found in
         record {
           events = events_of one.said ++ rest.events;
@@ -85,7 +83,7 @@ lines_taken version config number w v (text ∷ texts) took = of_line (after_lin
               ∙ ap (with_events (events_of one.said)) rest.says;
           ran = after_append config w next (events_of one.said) rest.events one.ran ∙ rest.ran;
         }
-    of_line (Err why) is later found = absurd cc
+    of_line (Err stop) is later found = absurd cc
 
 -- A SCRIPT that ran to its end
 pub record ScriptTaken (bytes : List ℕ) (ran : Ran) : Type 0 where
@@ -99,7 +97,7 @@ behind : (header : Header) (texts : List (List ℕ)) (ran : Ran) → ran_in head
 unfolding run
 behind header texts ran took = of_lines (after_lines header.version header.config 2 (first_world header.config) texts) refl took
   where
-    of_lines : (found : Result WorldState Refused) → after_lines header.version header.config 2 (first_world header.config) texts ≡ found → ran_in header.config found ≡ Ok ran
+    of_lines : (found : Result WorldState Stop) → after_lines header.version header.config 2 (first_world header.config) texts ≡ found → ran_in header.config found ≡ Ok ran
         → (events : List Event) × (with_config header.config (events_from header.version 2 texts) ≡ Ok (record { config = header.config; events = events })) × (ran.config ≡ header.config) × (run header.config events ≡ Some ran.world)
     of_lines (Ok v) is same =
         let equal : record { config = header.config; world = v } ≡ ran = cc in
@@ -109,7 +107,7 @@ behind header texts ran took = of_lines (after_lines header.version header.confi
           sym (ap (λ (r : Ran). r.config) equal),
           ran_is header.config (first_world header.config) v all.events all.ran ∙ ap (λ (r : Ran). Some r.world) equal,
         )
-    of_lines (Err refused) is same = absurd cc
+    of_lines (Err stop) is same = absurd cc
 
 text_taken : (texts : List (List ℕ)) (ran : Ran) → after_text texts ≡ Ok ran → (whole : Script) × (script_in texts ≡ Ok whole) × (ran.config ≡ whole.config) × (run whole.config whole.events ≡ Some ran.world)
 text_taken [] ran took = absurd cc
@@ -134,41 +132,3 @@ pub world_of : (bytes : List ℕ) (world : WorldValue) → IsAfterScript bytes w
 world_of bytes world after =
     let t = script_taken bytes (record { config = world.config; world = world.state }) after.ran in
     record { whole = t.whole; is_script = t.is_script; config = t.config; ran = t.runs; unspent = after.unspent }
-
--- ---- a refused line has a number
-lines_above : (version : ℕ) (config : ConfigValue) (number : ℕ) (w : WorldState) (texts : List (List ℕ)) (refused : Refused) → 0 < number → after_lines version config number w texts ≡ Err refused → 0 < refused.line
-unfolding after_lines
-lines_above version config number w [] refused above found = absurd cc
-lines_above version config number w (text ∷ texts) refused above found = of_line (after_line version config w text) (λ next. lines_above version config (number + 1) next texts refused (omega arith)) found
-  where
-    of_line : (here : Result WorldState Why) → ((next : WorldState) → after_lines version config (number + 1) next texts ≡ Err refused → 0 < refused.line)
-        → (elim here as (λ _. Result WorldState Refused) [ Ok next ↦ after_lines version config (number + 1) next texts | Err why ↦ Err (record { line = number; why = why }) ]) ≡ Err refused
-        → 0 < refused.line
-    of_line (Ok next) later same = later next same
-    of_line (Err why) later same =
-        let equal : record { line = number; why = why } ≡ refused = cc in
-        subst (λ (r : Refused). 0 < r.line) equal above
-
--- the first line
-at_first : (why : Why) (refused : Refused) → ◌≡◌ {A = Result Ran Refused} (Err (record { line = 1; why = why })) (Err refused) → 0 < refused.line
-at_first why refused same =
-    let equal : record { line = 1; why = why } ≡ refused = cc in
-    subst (λ (r : Refused). 0 < r.line) equal (omega arith)
-
-text_above : (texts : List (List ℕ)) (refused : Refused) → after_text texts ≡ Err refused → 0 < refused.line
-text_above [] refused found = at_first _ refused found
-text_above (first ∷ texts) refused found = of_header (header_of first) found
-  where
-    of_lines : (config : ConfigValue) (ran : Result WorldState Refused) → ((other : Refused) → ran ≡ Err other → 0 < other.line) → ran_in config ran ≡ Err refused → 0 < refused.line
-    of_lines config (Ok v) above same = absurd cc
-    of_lines config (Err other) above same = let equal : other ≡ refused = cc in subst (λ (r : Refused). 0 < r.line) equal (above other refl)
-
-    of_header : (read : Result Header Reason) → after_header read texts ≡ Err refused → 0 < refused.line
-    of_header (Ok header) same =
-        of_lines header.config (after_lines header.version header.config 2 (first_world header.config) texts)
-        (λ other is. lines_above header.version header.config 2 (first_world header.config) texts other (omega arith) is) same
-    of_header (Err why) same = at_first _ refused same
-
-pub line_above : (bytes : List ℕ) (refused : Refused) → outcome bytes ≡ Err refused → 0 < refused.line
-unfolding outcome
-line_above bytes refused found = text_above (lines bytes) refused found

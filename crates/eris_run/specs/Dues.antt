@@ -16,7 +16,8 @@ pub record IsDue (bytes : List ℕ) (due : Due) : Type 0 where
   pub accepted : IsAccepted bytes due.status
   pub has_text : HasText due.status
 
--- the status and the text are those for what comes of a script
+-- the status and the text are those for what comes of a script; the status is one with a text
 pub record IsJudged (bytes : List ℕ) (due : Due) : Type 0 where
   pub status : due.status ≡ status_for (outcome bytes)
   pub text : due.text ≡ answer_to (outcome bytes)
+  pub has_text : HasText due.status

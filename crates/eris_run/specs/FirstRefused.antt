@@ -40,7 +40,7 @@ pub record IsUntaken (version : ℕ) (config : ConfigValue) (world : WorldState)
   pub read : line_of version text ≡ Ok said
   pub cause : Refusal
   pub refused : RefusesEvent config world (events_of said) cause
-  pub told : why ≡ why_of cause
+  pub told : why_of cause ≡ Some why
 
 abbrev pub RefusesText : ℕ → ConfigValue → WorldState → List ℕ → Why → Type 0
 RefusesText version config world text why = IsUnread version text why ⊎ IsUntaken version config world text why

@@ -1,5 +1,5 @@
 -- How the lines of a script take a world on.
-use Rattle.std.specs.Prelude.{◌≡◌, ℕ, ◌+◌, ◌≤◌, ⊤, false, None, Some, List, [], ◌∷◌, length, Ok, Err}
+use Rattle.std.specs.Prelude.{◌≡◌, ℕ, ◌+◌, ◌≤◌, ⊤, false, None, Some, List, [], ◌∷◌, length, Result, Ok, Err}
 use Rattle.eris_base.specs.ConfigLimits.{ConfigValue}
 use Rattle.eris_event.specs.declared.event.Event.{Event}
 use Rattle.eris_event.specs.declared.event.Event.TheVariants as event
@@ -7,7 +7,6 @@ use Rattle.eris_grammar.specs.declared.line.Line.{Line}
 use Rattle.eris_grammar.specs.declared.line.Line.TheVariants as line
 use Rattle.eris_words.specs.Cuts.{lines}
 use Rattle.eris_grammar.specs.Scripts.{Script, script}
-use Rattle.eris_event.specs.declared.refusal.Refusal.{Refusal}
 use Rattle.eris_rules.specs.ClientStates.{ClientState}
 use Rattle.eris_rules.specs.Refusals.{limit_met}
 use Rattle.eris_rules.specs.Runs.{run}
@@ -15,14 +14,18 @@ use Rattle.eris_rules.specs.Worlds.{WorldState, first_world}
 use Rattle.eris_world.specs.WorldValues.{EventFits, WorldValue}
 use Rattle.eris_status.specs.declared.refused.Refused.{Refused}
 use Rattle.eris_status.specs.declared.refused.Stop.{Stop}
-use Rattle.eris_status.specs.declared.refused.Stop.TheVariants as stop
-use Rattle.eris_run.specs.ScriptRuns.{after_events, after_line, after_lines, after_said, outcome}
-use Rattle.eris_status.specs.Stops.{why_of}
+use Rattle.eris_status.specs.declared.refused.Stop.TheVariants as stops
+use Rattle.eris_run.specs.ScriptRuns.{after_events, after_line, after_lines, outcome}
 
 -- what holds where a line was refused
 abbrev pub IfRefused : Stop → (Refused → Type 0) → Type 0
-IfRefused (stop.Refused refused) P = P refused
-IfRefused stop.NoMemory P = ⊤
+IfRefused (stops.Refused refused) P = P refused
+IfRefused stops.NoMemory P = ⊤
+
+-- the run stops as the rules say; where memory ran out they say nothing
+abbrev pub IsStopOf : {A : Type 0} → Result A Stop → Stop → Type 0
+IsStopOf found (stops.Refused refused) = found ≡ Err (stops.Refused refused)
+IsStopOf found stops.NoMemory = ⊤
 
 -- how much all clients submitted
 abbrev pub submissions : List ClientState → ℕ
@@ -51,12 +54,6 @@ pub record Takes (before after : WorldValue) (events : List Event) (most : ℕ) 
   pub fine : IsFine after
   pub few : begun after.state ≤ begun before.state + most
 
--- an event of these is refused, and so the line of this number is
-pub record Refuses (before : WorldValue) (events : List Event) (number : ℕ) (refused : Refused) : Type 0 where
-  pub cause : Refusal
-  pub found : after_events before.config before.state events ≡ Err cause
-  pub told : refused ≡ record { line = number; why = why_of cause }
-
 -- what a line says is in the ranges of the grammar
 abbrev pub LineFits : Line → Type 0
 LineFits line.Skip = ⊤
@@ -64,39 +61,18 @@ LineFits (line.One event) = EventFits event
 LineFits (line.Flow times) = ⊤
 LineFits (line.Lose times) = ⊤
 
--- a world took what a line says
-pub record TakesSaid (before after : WorldValue) (said : Line) : Type 0 where
-  pub ran : after_said before.config before.state said ≡ Ok after.state
+-- a world took the line of this number
+pub record TakesLine (version number : ℕ) (before after : WorldValue) (text : List ℕ) : Type 0 where
+  pub ran : after_line version before.config number before.state text ≡ Ok after.state
   pub same : after.config ≡ before.config
   pub fine : IsFine after
   pub few : begun after.state ≤ begun before.state + 1
-
--- what the line of this number says is refused
-pub record RefusesSaid (before : WorldValue) (said : Line) (number : ℕ) (refused : Refused) : Type 0 where
-  pub found : after_said before.config before.state said ≡ Err refused.why
-  pub here : refused.line ≡ number
-
--- a world took a line
-pub record TakesLine (version : ℕ) (before after : WorldValue) (text : List ℕ) : Type 0 where
-  pub ran : after_line version before.config before.state text ≡ Ok after.state
-  pub same : after.config ≡ before.config
-  pub fine : IsFine after
-  pub few : begun after.state ≤ begun before.state + 1
-
--- the line of this number is refused
-pub record RefusesAt (version : ℕ) (before : WorldValue) (text : List ℕ) (number : ℕ) (refused : Refused) : Type 0 where
-  pub found : after_line version before.config before.state text ≡ Err refused.why
-  pub here : refused.line ≡ number
 
 -- a world took the lines behind a header
 pub record TakesLines (version : ℕ) (before after : WorldValue) (text : List ℕ) : Type 0 where
   pub ran : after_lines version before.config 2 before.state (lines text) ≡ Ok after.state
   pub same : after.config ≡ before.config
   pub unspent : after.spent ≡ false
-
--- one of the lines behind a header is refused
-abbrev pub RefusesOne : ℕ → WorldValue → List ℕ → Refused → Type 0
-RefusesOne version before text refused = after_lines version before.config 2 before.state (lines text) ≡ Err refused
 
 -- a world as it begins
 abbrev pub begins : ConfigValue → WorldValue

@@ -1,5 +1,6 @@
 -- WHAT COMES OF THE BYTES OF A SCRIPT: the world after its events, or the first line that the grammar or the world refuses, and
--- why. The events of a line are taken one after another; where one is refused, its line is, and nothing behind it counts.
+-- why. The events of a line are taken one after another; where one is refused, its line is, and nothing behind it counts. The
+-- rules refuse no event for want of memory, so no bytes come to that.
 use Rattle.std.specs.Prelude.{ℕ, ◌+◌, Option, Some, None, Result, Ok, Err, List, [], ◌∷◌}
 use Rattle.eris_base.specs.ConfigLimits.{ConfigValue}
 use Rattle.eris_event.specs.declared.event.Event.{Event}
@@ -15,10 +16,10 @@ use Rattle.eris_event.specs.declared.refusal.Refusal.{Refusal}
 use Rattle.eris_rules.specs.Happenings.{happens}
 use Rattle.eris_rules.specs.Refusals.{refusal}
 use Rattle.eris_rules.specs.Worlds.{WorldState, first_world}
-use Rattle.eris_status.specs.declared.refused.Refused.{Refused}
-use Rattle.eris_status.specs.declared.refused.Why.{Why}
+use Rattle.eris_status.specs.declared.refused.Stop.{Stop}
+use Rattle.eris_status.specs.declared.refused.Stop.TheVariants as stops
 use Rattle.eris_status.specs.declared.refused.Why.TheVariants as why
-use Rattle.eris_status.specs.Stops.{why_of}
+use Rattle.eris_status.specs.Stops.{stop_at}
 
 -- the world after an event, unless it is refused
 abbrev pub unless : Option Refusal → WorldState → Result WorldState Refusal
@@ -36,28 +37,29 @@ after_events config world (event ∷ events) = elim (after_event config world ev
   | Err cause ↦ Err cause
 ]
 
-abbrev pub told : Result WorldState Refusal → Result WorldState Why
-told (Ok next) = Ok next
-told (Err cause) = Err (why_of cause)
+-- the line of this number is refused with its event
+abbrev pub told : ℕ → Result WorldState Refusal → Result WorldState Stop
+told number (Ok next) = Ok next
+told number (Err cause) = Err (stop_at number cause)
 
--- the world after what a line says
-unfoldable pub after_said : ConfigValue → WorldState → Line → Result WorldState Why
-after_said config world said = told (after_events config world (events_of said))
+-- the world after what the line of this number says
+unfoldable pub after_said : ConfigValue → ℕ → WorldState → Line → Result WorldState Stop
+after_said config number world said = told number (after_events config world (events_of said))
 
-abbrev pub after_read : ConfigValue → WorldState → Result Line Reason → Result WorldState Why
-after_read config world (Ok said) = after_said config world said
-after_read config world (Err reason) = Err (why.Reason reason)
+abbrev pub after_read : ConfigValue → ℕ → WorldState → Result Line Reason → Result WorldState Stop
+after_read config number world (Ok said) = after_said config number world said
+after_read config number world (Err reason) = Err (stops.Refused (record { line = number; why = why.Reason reason }))
 
--- the world after a line; or why the grammar, else the world, refuses it
-unfoldable pub after_line : ℕ → ConfigValue → WorldState → List ℕ → Result WorldState Why
-after_line version config world text = after_read config world (line_of version text)
+-- the world after the line of this number; or why the grammar, else the world, refuses it
+unfoldable pub after_line : ℕ → ConfigValue → ℕ → WorldState → List ℕ → Result WorldState Stop
+after_line version config number world text = after_read config number world (line_of version text)
 
 -- the world after lines, of which the first has this number
-unfoldable pub after_lines : ℕ → ConfigValue → ℕ → WorldState → List (List ℕ) → Result WorldState Refused
+unfoldable pub after_lines : ℕ → ConfigValue → ℕ → WorldState → List (List ℕ) → Result WorldState Stop
 after_lines version config number world [] = Ok world
-after_lines version config number world (text ∷ texts) = elim (after_line version config world text) [
+after_lines version config number world (text ∷ texts) = elim (after_line version config number world text) [
   | Ok next ↦ after_lines version config (number + 1) next texts
-  | Err why ↦ Err (record { line = number; why = why })
+  | Err stop ↦ Err stop
 ]
 
 -- a world of a config
@@ -65,18 +67,18 @@ pub record Ran : Type 0 where
   pub config : ConfigValue
   pub world : WorldState
 
-abbrev pub ran_in : ConfigValue → Result WorldState Refused → Result Ran Refused
+abbrev pub ran_in : ConfigValue → Result WorldState Stop → Result Ran Stop
 ran_in config (Ok world) = Ok (record { config = config; world = world })
-ran_in config (Err refused) = Err refused
+ran_in config (Err stop) = Err stop
 
-abbrev pub after_header : Result Header Reason → List (List ℕ) → Result Ran Refused
+abbrev pub after_header : Result Header Reason → List (List ℕ) → Result Ran Stop
 after_header (Ok header) texts = ran_in header.config (after_lines header.version header.config 2 (first_world header.config) texts)
-after_header (Err reason) texts = Err (record { line = 1; why = why.Reason reason })
+after_header (Err reason) texts = Err (stops.Refused (record { line = 1; why = why.Reason reason }))
 
 -- the first line is the header, whatever it is
-abbrev pub after_text : List (List ℕ) → Result Ran Refused
-after_text [] = Err (record { line = 1; why = why.Reason reason.Header })
+abbrev pub after_text : List (List ℕ) → Result Ran Stop
+after_text [] = Err (stops.Refused (record { line = 1; why = why.Reason reason.Header }))
 after_text (first ∷ texts) = after_header (header_of first) texts
 
-unfoldable pub outcome : List ℕ → Result Ran Refused
+unfoldable pub outcome : List ℕ → Result Ran Stop
 outcome bytes = after_text (lines bytes)

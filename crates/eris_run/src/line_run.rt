@@ -2,8 +2,10 @@ ghost use Rattle.std.specs.Prelude.{◌≡◌, ◌⊎◌, ◌+◌, ◌<◌, ◌^
 ghost use Rattle.eris_event.specs.declared.event.Event.TheVariants.{Flow as flow_event, Lose as lose_event};
 ghost use Rattle.eris_words.specs.Forms.{Gives};
 ghost use Rattle.eris_grammar.specs.LineForms.{line_of};
+ghost use Rattle.eris_grammar.specs.Scripts.{events_of};
 ghost use Rattle.eris_world.specs.WorldValues.{EventFits};
-ghost use Rattle.eris_run.specs.LineRuns.{begun, cost, IfRefused, IsFine, LineFits, Refuses, RefusesAt, RefusesSaid, Takes, TakesLine, TakesSaid};
+ghost use Rattle.eris_run.specs.LineRuns.{begun, cost, IsFine, IsStopOf, LineFits, Takes, TakesLine};
+ghost use Rattle.eris_run.specs.ScriptRuns.{after_events, after_line, after_said, told};
 
 use eris_event::Event;
 use eris_grammar::{Line, parse_line};
@@ -19,7 +21,7 @@ fn take_event(world: &mut World, event: Event, number: u32) -> Result<(), Stop>
     requires room { begun world.old.state + 1 < 2 ^ 32 }
     requires fits { EventFits event }
     ensures ok { OnOk result (Takes world.old world.new (event ∷ []) (cost event)) }
-    ensures bad { IfErr result (λ stop. IfRefused stop (Refuses world.old (event ∷ []) number)) }
+    ensures bad { IfErr result (IsStopOf (told number (after_events world.old.config world.old.state (event ∷ [])))) }
 {
     match world.apply(event) {
         Ok(()) => Ok(()),
@@ -32,7 +34,7 @@ fn flow(world: &mut World, flows: u32, number: u32) -> Result<(), Stop>
     requires fine { IsFine world.old }
     requires room { begun world.old.state + 1 < 2 ^ 32 }
     ensures ok { OnOk result (Takes world.old world.new (replicate flows flow_event) 0) }
-    ensures bad { IfErr result (λ stop. IfRefused stop (Refuses world.old (replicate flows flow_event) number)) }
+    ensures bad { IfErr result (IsStopOf (told number (after_events world.old.config world.old.state (replicate flows flow_event)))) }
 {
     for _ in 0..flows {
         if !world.has_waiting() {
@@ -48,7 +50,7 @@ fn lose(world: &mut World, losses: u32, number: u32) -> Result<(), Stop>
     requires fine { IsFine world.old }
     requires room { begun world.old.state + 1 < 2 ^ 32 }
     ensures ok { OnOk result (Takes world.old world.new (replicate losses lose_event) 0) }
-    ensures bad { IfErr result (λ stop. IfRefused stop (Refuses world.old (replicate losses lose_event) number)) }
+    ensures bad { IfErr result (IsStopOf (told number (after_events world.old.config world.old.state (replicate losses lose_event)))) }
 {
     for _ in 0..losses {
         if !world.has_waiting() {
@@ -60,13 +62,13 @@ fn lose(world: &mut World, losses: u32, number: u32) -> Result<(), Stop>
 }
 
 // What the line of this number says is done.
-#[tactic(auto, using(crate::proofs::EventRuns::sayings))]
+#[tactic(auto, using(crate::proofs::EventRuns::sayings), unfolding(crate::specs::ScriptRuns::after_said))]
 fn take_said(world: &mut World, said: Line, number: u32) -> Result<(), Stop>
     requires fine { IsFine world.old }
     requires room { begun world.old.state + 1 < 2 ^ 32 }
     requires fits { LineFits said }
-    ensures ok { OnOk result (TakesSaid world.old world.new said) }
-    ensures bad { IfErr result (λ stop. IfRefused stop (RefusesSaid world.old said number)) }
+    ensures ok { OnOk result (Takes world.old world.new (events_of said) 1) }
+    ensures bad { IfErr result (IsStopOf (after_said world.old.config number world.old.state said)) }
 {
     match said {
         Line::Skip => Ok(()),
@@ -86,7 +88,7 @@ fn read_line(alloc: Global, version: u8, text: &[u8]) -> Result<Line, LineFault>
 }
 
 // The line of this number is read and done.
-#[tactic(auto, unfolding(crate::specs::ScriptRuns::after_line))]
+#[tactic(auto, unfolding(crate::specs::ScriptRuns::after_line, crate::specs::ScriptRuns::after_said))]
 pub(crate) fn run_line(
     alloc: Global,
     version: u8,
@@ -97,8 +99,8 @@ pub(crate) fn run_line(
     requires known { (version ≡ 1) ⊎ (version ≡ 2) }
     requires fine { IsFine world.old }
     requires room { begun world.old.state + 1 < 2 ^ 32 }
-    ensures ok { OnOk result (TakesLine version world.old world.new text.now) }
-    ensures bad { IfErr result (λ stop. IfRefused stop (RefusesAt version world.old text.now number)) }
+    ensures ok { OnOk result (TakesLine version number world.old world.new text.now) }
+    ensures bad { IfErr result (IsStopOf (after_line version world.old.config number world.old.state text.now)) }
 {
     match read_line(alloc, version, text) {
         Ok(said) => take_said(world, said, number),

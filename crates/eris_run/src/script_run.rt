@@ -1,8 +1,10 @@
-ghost use Rattle.std.specs.Prelude.{◌≡◌, ◌⊎◌, ◌+◌, ◌^◌, ◌<◌, ◌≤◌, Err, length, IfOk, IfErr, OnOk};
+ghost use Rattle.std.specs.Prelude.{◌≡◌, ◌⊎◌, ◌+◌, ◌^◌, ◌<◌, ◌≤◌, length, IfOk, IfErr, OnOk};
+ghost use Rattle.eris_words.specs.Cuts.{lines};
+ghost use Rattle.eris_rules.specs.Worlds.{first_world};
 ghost use Rattle.eris_run.specs.Calls.{input_limit};
 ghost use Rattle.eris_run.specs.FirstRefused.{IsFirstRefused};
-ghost use Rattle.eris_run.specs.LineRuns.{begun, begins, IfRefused, IsAfterScript, IsFine, IsWorldOf, RefusesOne, TakesLines};
-ghost use Rattle.eris_run.specs.ScriptRuns.{outcome};
+ghost use Rattle.eris_run.specs.LineRuns.{begun, begins, IfRefused, IsAfterScript, IsFine, IsStopOf, IsWorldOf, TakesLines};
+ghost use Rattle.eris_run.specs.ScriptRuns.{after_lines, outcome};
 
 use crate::line_run::run_line;
 use eris_base::{Config, NoMemory};
@@ -28,7 +30,7 @@ fn run_lines(alloc: Global, version: u8, world: &mut World, text: &[u8]) -> Resu
     requires fine { IsFine world.old }
     requires room { begun world.old.state + length text.now + 2 < 2 ^ 32 }
     ensures ok { OnOk result (TakesLines version world.old world.new text.now) }
-    ensures bad { IfErr result (λ stop. IfRefused stop (RefusesOne version world.old text.now)) }
+    ensures bad { IfErr result (IsStopOf (after_lines version world.old.config 2 world.old.state (lines text.now))) }
 {
     let mut rest = text;
     let mut number = 2;
@@ -46,7 +48,7 @@ fn run_behind(alloc: Global, header: Header, text: &[u8]) -> Result<World, Stop>
     requires known { (header.version ≡ 1) ⊎ (header.version ≡ 2) }
     requires short { length text.now ≤ input_limit }
     ensures ok { IfOk result (λ world. TakesLines header.version (begins header.config) world text.now) }
-    ensures bad { IfErr result (λ stop. IfRefused stop (RefusesOne header.version (begins header.config) text.now)) }
+    ensures bad { IfErr result (IsStopOf (after_lines header.version header.config 2 (first_world header.config) (lines text.now))) }
 {
     let mut world = begin(alloc, header.config)?;
     match run_lines(alloc, header.version, &mut world, text) {
@@ -65,7 +67,7 @@ fn leave(_world: World) {}
 fn run_text(alloc: Global, text: &[u8]) -> Result<World, Stop>
     requires { length text.now ≤ input_limit }
     ensures ok { IfOk result (IsAfterScript text.now) }
-    ensures bad { IfErr result (λ stop. IfRefused stop (λ refused. outcome text.now ≡ Err refused)) }
+    ensures bad { IfErr result (IsStopOf (outcome text.now)) }
 {
     let (first, rest) = first_line(text);
     match parse_header(first) {
@@ -89,7 +91,7 @@ pub fn run_bytes(alloc: Global, text: &[u8]) -> Result<World, Stop>
     requires { length text.now ≤ input_limit }
     ensures ok { IfOk result (IsAfterScript text.now) }
     ensures script { IfOk result (IsWorldOf text.now) }
-    ensures bad { IfErr result (λ stop. IfRefused stop (λ refused. outcome text.now ≡ Err refused)) }
+    ensures bad { IfErr result (IsStopOf (outcome text.now)) }
     ensures first { IfErr result (λ stop. IfRefused stop (λ refused. IsFirstRefused text.now refused.line refused.why)) }
 {
     run_text(alloc, text)

@@ -61,3 +61,4 @@ HasText (TooLarge line) = ⊤
 pub record IsRefusal (refused : Refused) (due : Due) : Type 0 where
   pub status : due.status ≡ status_of refused.line refused.why
   pub text : due.text ≡ refusal_text refused.line refused.why
+  pub has_text : HasText due.status

@@ -1,5 +1,5 @@
 ghost use Rattle.std.specs.Prelude.{◌≡◌, IfOk};
-ghost use Rattle.eris_status.specs.Statuses.{IsRefusal, status_of};
+ghost use Rattle.eris_status.specs.Statuses.{HasText, IsRefusal, status_of};
 
 use crate::refused::{Refused, Why};
 use crate::status::Status;
@@ -17,7 +17,8 @@ pub struct Due {
 }
 
 fn status_of(line: u32, why: Why) -> Status
-    ensures { result ≡ status_of line why }
+    ensures exact { result ≡ status_of line why }
+    ensures has_text { HasText result }
 {
     match why {
         Why::Reason(reason) => Status::BadScript { line, reason },

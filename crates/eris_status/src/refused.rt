@@ -40,8 +40,8 @@ impl From<NoMemory> for Stop {
     }
 }
 
-// Why a line is refused whose event the world refuses.
-fn why_of(refusal: Refusal) -> Why
+// Why a line is refused whose event the world refuses. None for want of memory, which is no cause of that.
+fn why_of(refusal: Refusal) -> Option<Why>
     ensures { result ≡ why_of refusal }
 {
     let reason = match refusal {
@@ -55,22 +55,19 @@ fn why_of(refusal: Refusal) -> Why
         Refusal::NoSuchReplica => Reason::NoSuchReplica,
         Refusal::Crashed => Reason::Crashed,
         Refusal::IsMessage => Reason::IsMessage,
-        Refusal::NoMemory => Reason::Word,
-        Refusal::Packets => return Why::Limit(Limit::Packets),
-        Refusal::Bytes => return Why::Limit(Limit::Bytes),
+        Refusal::NoMemory => return None,
+        Refusal::Packets => return Some(Why::Limit(Limit::Packets)),
+        Refusal::Bytes => return Some(Why::Limit(Limit::Bytes)),
     };
-    Why::Reason(reason)
+    Some(Why::Reason(reason))
 }
 
 /// The run stops at this line, since the world refused its event.
 pub fn stop_at(line: u32, refusal: Refusal) -> Stop
     ensures { result ≡ stop_at line refusal }
 {
-    match refusal {
-        Refusal::NoMemory => Stop::NoMemory,
-        other => Stop::Refused(Refused {
-            line,
-            why: why_of(other),
-        }),
+    match why_of(refusal) {
+        Some(why) => Stop::Refused(Refused { line, why }),
+        None => Stop::NoMemory,
     }
 }
