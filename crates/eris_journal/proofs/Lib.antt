@@ -1,0 +1,5 @@
+pub mod Lists
+pub mod Steps
+pub mod Ending
+pub mod Books
+pub mod Calls
