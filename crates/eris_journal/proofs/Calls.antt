@@ -25,7 +25,7 @@ use Rattle.eris_journal.proofs.Steps.{book_or}
 use Rattle.eris_journal.proofs.Ending.{closes}
 use Rattle.eris_journal.proofs.Books.{none_is_not, FetchAdds, Adds}
 
-some_same : {A : Type 0} (x y : A) → Some x ≡ Some y → x ≡ y
+pub some_same : {A : Type 0} (x y : A) → Some x ≡ Some y → x ≡ y
 some_same x y e = ap (book_or x) e
 
 or_false : (b : Bool) → (b || false) ≡ b

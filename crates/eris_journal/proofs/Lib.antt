@@ -3,3 +3,5 @@ pub mod Steps
 pub mod Ending
 pub mod Books
 pub mod Calls
+pub mod Pending
+pub mod Weights

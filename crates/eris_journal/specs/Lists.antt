@@ -1,5 +1,5 @@
 -- Lists of pairs of a node's number and what is the node's, in the order in which it came.
-use Rattle.std.specs.Prelude.{◌≡◌, ◌==◌, ◌⊎◌, ℕ, ◌<◌, List, [], ◌∷◌, ◌++◌, Option, None, Some, if◌then◌else◌, ◌+◌}
+use Rattle.std.specs.Prelude.{◌≡◌, ◌==◌, ◌⊎◌, ℕ, zero, suc, ◌<◌, List, [], ◌∷◌, ◌++◌, Option, None, Some, if◌then◌else◌, ◌+◌}
 use Rattle.eris_base.specs.Each.{Each}
 
 -- what is the node's, in order
@@ -29,3 +29,8 @@ NamesBelow nodes xs = Each (λ x. x.0 < nodes) xs
 abbrev pub weigh : {E : Type 0} → (E → ℕ) → List E → ℕ
 weigh weight [] = 0
 weigh weight (x ∷ xs) = weight x + weigh weight xs
+
+-- a function's values below the number, added up
+abbrev pub total : (ℕ → ℕ) → ℕ → ℕ
+total f zero = 0
+total f (suc n) = total f n + f n

@@ -1,5 +1,5 @@
 -- What a book's entries have sent, and which packet is pending for a node.
-use Rattle.std.specs.Prelude.{◌==◌, ◌&&◌, ◌||◌, ℕ, ◌+◌, Bool, false, not, List, [], ◌∷◌, ◌++◌, Option, None, Some, if◌then◌else◌}
+use Rattle.std.specs.Prelude.{◌≡◌, ◌==◌, ◌&&◌, ◌||◌, ℕ, ◌+◌, ◌<◌, Bool, false, true, not, List, [], ◌∷◌, ◌++◌, Option, None, Some, if◌then◌else◌, slice_get}
 use Rattle.eris_journal.specs.declared.fetched.Fetched.{Fetched}
 use Rattle.eris_journal.specs.Lists.{own}
 
@@ -26,3 +26,14 @@ pending_from node number (packet ∷ packets) fetched =
 -- the least number that was sent to the node and that the node hasn't fetched
 abbrev pub pending : {E : Type 0} → (E → List Packet) → List (ℕ × E) → List (ℕ × Fetched) → ℕ → Option ℕ
 pending sends entries fetches node = pending_from node 0 (sent sends entries) (own node fetches)
+
+-- nothing is pending: each packet that goes to the node was fetched
+abbrev pub IsNothing : ℕ → List Packet → List Fetched → Type 0
+IsNothing node packets fetched = (number : ℕ) (packet : Packet) → slice_get packets number ≡ Some packet → packet.0 ≡ node → is_fetched number fetched ≡ true
+
+-- the number is the least of a packet that goes to the node and wasn't fetched
+abbrev pub IsLeast : ℕ → List Packet → List Fetched → ℕ → Type 0
+IsLeast node packets fetched number =
+    ((bytes : List ℕ) × (slice_get packets number ≡ Some (node, bytes)))
+    × (is_fetched number fetched ≡ false)
+    × ((other : ℕ) (packet : Packet) → other < number → slice_get packets other ≡ Some packet → packet.0 ≡ node → is_fetched other fetched ≡ true)
