@@ -1,4 +1,5 @@
--- Books that go on from others, and what may be put back after a fetch and after an entry was added.
+-- Books that go on from others, and what may be put back after a fetch and after an entry was
+-- added.
 use Rattle.std.proofs.Common.{◌≡◌, ◌≢◌, ℕ, Bool, true, false, true≢false, List, [], ◌∷◌, ◌++◌, sym, ap, ◌∙◌, subst, Some, None, Ok, Err, is_some, IfOk, OnOk, OnErr, IfErr, MatchOption, Option, Result}
 use Rattle.eris_base.specs.declared.no_memory.NoMemory.{NoMemory as NoMemoryValue}
 use Rattle.eris_journal.specs.Lists.{own, own_one, Begins}

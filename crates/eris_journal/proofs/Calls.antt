@@ -1,4 +1,5 @@
--- From a turn's steps to what a call's clauses say of the seat, and from the end to what is said of the closed book.
+-- From a turn's steps to what a call's clauses say of the seat, and from the end to what is said of
+-- the closed book.
 use Rattle.std.proofs.Common.{◌≡◌, ◌||◌, ℕ, ◌≤◌, Bool, true, false, List, [], ◌∷◌, ◌++◌, refl, sym, ap, ◌∙◌, subst, Some, None, Ok, Err, IfOk, OnOk, OnErr, IfErr, IfSome, MatchOption, Option, Result, slice_get, lt_of_not-le, le_trans}
 use mathlib.Core.Option.{some, some-injective}
 use mathlib.Core.Logic.{dite}

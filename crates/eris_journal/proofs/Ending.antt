@@ -35,7 +35,8 @@ module _ {L X : Type 0} (legal : L → Type 0) (grows : L → L → Type 0) (par
   at_home s book seat_of hand none placed seats nobody = ap (λ (hs : List (Option (RustOption L))). get_elem? hs 0) placed.1
   at_home s book seat_of hand (some holder) placed seats nobody = let has = seats.has_node holder refl in absurd (some-ne-none holder (sym has.1 ∙ nobody has.0))
 
-  -- where each seat was joined, the slot of the closed table has a book, and all that was joined holds of it
+  -- where each seat was joined, the slot of the closed table has a book, and all that was joined
+  -- holds of it
   pub closes : (id : ℕ) (view : View L X) (count : ℕ) (kept : List (Joined X)) (first : L) (ws : List ℕ) (xs : List (RustOption L)) → view ≡ Hand count kept first → AreJoined count kept
       → Final (Seen Rule id view) ws xs → (book : L) × (get_elem? xs 0 ≡ some (Some book)) × Ends legal grows part stuck count kept start book
   closes id view count kept first ws xs is joined final =

@@ -8,8 +8,8 @@ use Rattle.eris_journal.specs.declared.add_fault.AddFault.TheVariants.{NoMemory}
 use Rattle.eris_journal.specs.declared.fetched.Fetched.{Fetched}
 
 module _ {L E : Type 0} (entries : L → List (ℕ × E)) (fetches : L → List (ℕ × Fetched)) (refused : L → Option (Refused E)) where
-  -- the turn was taken once. There is a noted book, and it is legal, goes on from the start book, and has of the node
-  -- just what the seat knew as the call began.
+  -- the turn was taken once. There is a noted book, and it is legal, goes on from the start book,
+  -- and has of the node just what the seat knew as the call began.
   abbrev pub TookTurn : (L → Type 0) → JournalValue L → SeatValue L E → SeatValue L E → Type 0
   TookTurn legal journal old new =
       IsSeatOf journal new
@@ -18,7 +18,8 @@ module _ {L E : Type 0} (entries : L → List (ℕ × E)) (fetches : L → List 
       × ((book : L) × (new.noted ≡ Some book) × legal book × Grows entries fetches refused journal.start book × (part_of entries fetches refused book old.node ≡ old.part))
 
   module _ (sends : E → List Packet) where
-    -- in the noted book nothing was pending for the node; or this packet was, with its bytes, and is the seat's last
+    -- in the noted book nothing was pending for the node; or this packet was, with its bytes, and
+    -- is the seat's last
     abbrev pub GivesFetched : SeatValue L E → SeatValue L E → Option Fetched → Type 0
     GivesFetched old new None =
         (new.part.fetches ≡ old.part.fetches)
@@ -33,7 +34,8 @@ module _ {L E : Type 0} (entries : L → List (ℕ × E)) (fetches : L → List 
     abbrev pub WasFree : SeatValue L E → E → Type 0
     WasFree new entry = (book : L) × (new.noted ≡ Some book) × (refused book ≡ None) × (limit book new.node entry ≡ None)
 
-    -- the cause by the noted book: that of its refused entry; else its limit, and the seat keeps the entry and the cause
+    -- the cause by the noted book: that of its refused entry; else its limit, and the seat keeps
+    -- the entry and the cause
     abbrev pub RefusedBy : Option (Refused E) → L → SeatValue L E → SeatValue L E → E → AddFault → Type 0
     RefusedBy None book old new entry fault = (new.part.refused ≡ Some (entry, fault)) × (limit book old.node entry ≡ Some fault)
     RefusedBy (Some r) book old new entry fault = (new.part.refused ≡ old.part.refused) × (r.1.1 ≡ fault)

@@ -1,4 +1,5 @@
--- A book as its two lists and its refused entry, what it has of a node, and which books go on from it.
+-- A book as its two lists and its refused entry, what it has of a node, and which books go on from
+-- it.
 use Rattle.std.specs.Prelude.{◌≡◌, ◌<◌, ℕ, Bool, List, Option, None, Some, Result, Ok, Err, true, false}
 use Rattle.eris_journal.specs.Lists.{own, own_one, Begins, NamesBelow}
 use Rattle.eris_journal.specs.declared.add_fault.AddFault.{AddFault}
@@ -48,8 +49,9 @@ module _ {E : Type 0} where
   RefusesBy fault limit None after node entry = (after ≡ Some (node, (entry, fault))) × (limit ≡ Some fault)
   RefusesBy fault limit (Some r) after node entry = (after ≡ Some r) × (r.1.1 ≡ fault)
 
-  -- the cause of a refusal: no memory, and all is as before; or that of the entry that was refused before; or else the
-  -- limit that this entry would pass, and it is kept. `before` and `after` are the refused entry before and after the call.
+  -- the cause of a refusal: no memory, and all is as before; or that of the entry that was refused
+  -- before; or else the limit that this entry would pass, and it is kept. `before` and `after` are
+  -- the refused entry before and after the call.
   abbrev pub Refuses : Option AddFault → Option (Refused E) → Option (Refused E) → ℕ → E → AddFault → Type 0
   Refuses limit before after node entry NoMemory = after ≡ before
   Refuses limit before after node entry fault = RefusesBy fault limit before after node entry

@@ -13,8 +13,8 @@ pub record JournalValue (L : Type 0) : Type 0 where
   pub table : TableId
   pub start : L
 
--- a seat: its journal, its node, what the book has of the node, whether an entry met a limit, how often it took the turn,
--- and the book that it found there last
+-- a seat: its journal, its node, what the book has of the node, whether an entry met a limit, how
+-- often it took the turn, and the book that it found there last
 pub record SeatValue (L E : Type 0) : Type 0 where
   pub table : TableId
   pub start : Option L
@@ -24,7 +24,8 @@ pub record SeatValue (L E : Type 0) : Type 0 where
   pub turns : ℕ
   pub noted : Option L
 
--- the hand: its journal, how many nodes there are, how many seats were split, and what the joined ones left
+-- the hand: its journal, how many nodes there are, how many seats were split, and what the joined
+-- ones left
 pub record HandValue (L E : Type 0) : Type 0 where
   pub table : TableId
   pub start : L

@@ -1,6 +1,7 @@
--- The rule of a journal: one word, the turn, which is 0 where it is free, and one slot, the book's. It speaks of a node
--- only by its part of the book. `legal` says which books are, `grows` which book goes on from which, `part` what a book
--- has of a node, and `stuck` which books have a refused entry.
+-- The rule of a journal: one word, the turn, which is 0 where it is free, and one slot, the book's.
+-- It speaks of a node only by its part of the book. `legal` says which books are, `grows` which
+-- book goes on from which, `part` what a book has of a node, and `stuck` which books have a refused
+-- entry.
 use Rattle.std.specs.Prelude.{◌≡◌, ◌≢◌, ◌||◌, ℕ, Bool, true, false, ◌+◌, ◌<◌, ◌≤◌, List, [], ◌∷◌, length, Option as RustOption, Some, None}
 use mathlib.Core.Option.{Option, none, some}
 use lib.ListN.{get_elem?}
@@ -65,8 +66,8 @@ module _ {L X : Type 0} where
   hand_with view other = view
 
   module _ (legal : L → Type 0) (grows : L → L → Type 0) (part : L → ℕ → X) (stuck : L → Type 0) where
-    -- what the rule says of one seat: `seat_of` has the seat of each node that has one, `hand` is the hand's seat, and
-    -- `holder` the seat that has the turn
+    -- what the rule says of one seat: `seat_of` has the seat of each node that has one, `hand` is
+    -- the hand's seat, and `holder` the seat that has the turn
     module _ (start : L) (book : L) (seat_of : ℕ → Option ℕ) (hand : ℕ) (holder : Option ℕ) (id : ℕ) where
       abbrev pub Fits : Known L X → Type 0
       Fits known = (seat_of known.node ≡ some id) × (known.part ≡ part book known.node) × (known.full ≡ true → stuck book) × (known.start ≡ start)

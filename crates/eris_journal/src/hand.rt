@@ -4,8 +4,8 @@ use atomic_table::Seat;
 use std::marker::Model;
 use std::snapshot::Snapshot;
 
-/// The right to split seats from a journal, to join them, and to close it. Contracts see how many nodes there are, how
-/// many seats were split, and what the joined ones left.
+/// The right to split seats from a journal, to join them, and to close it. Contracts see how many
+/// nodes there are, how many seats were split, and what the joined ones left.
 #[derive(Drop)]
 pub struct Hand<L: Legal> {
     pub(crate) nodes: u32,

@@ -23,7 +23,8 @@ use std::snapshot::Snapshot;
 use std::sync::Wait;
 use std::thread;
 
-/// A book that threads take in turn. Contracts see which journal it is, and the book that it was started with.
+/// A book that threads take in turn. Contracts see which journal it is, and the book that it was
+/// started with.
 #[derive(Drop)]
 pub struct Journal<L: Legal> {
     table: Table<Option<L>, View<L, Part<L::Entry>>, Snapshot<L>, Law<L>, Global>,
@@ -41,8 +42,8 @@ impl<L: Legal> Model for Journal<L> {
 }
 
 impl<L: Legal> Journal<L> {
-    /// A journal of this book for nodes numbered from 0, and its hand. It asks for at least one node, and for a legal book
-    /// with no refused entry, which names only these nodes.
+    /// A journal of this book for nodes numbered from 0, and its hand. It asks for at least one
+    /// node, and for a legal book with no refused entry, which names only these nodes.
     ///
     /// # Errors
     ///
@@ -73,7 +74,8 @@ impl<L: Legal> Journal<L> {
         }
     }
 
-    /// The seat of the next node, from 0. It asks that fewer seats were split than there are nodes. It takes no memory.
+    /// The seat of the next node, from 0. It asks that fewer seats were split than there are nodes.
+    /// It takes no memory.
     pub fn split(&self, hand: &mut Hand<L>) -> NodeSeat<L>
         requires own { IsHandOf self.now hand.old }
         requires room { hand.old.count < hand.old.nodes }
@@ -111,19 +113,20 @@ impl<L: Legal> Journal<L> {
         ensures err { OnErr result (seat.new.part.fetches ≡ seat.old.part.fetches) }
     {
         let NodeSeat { node, seat } = seat;
-        let mut book = self.take(rt, seat);
-        let answer = book.fetch(*node);
-        self.give(seat, book, false);
+        let mut found = self.take(rt, seat);
+        let answer = found.fetch(*node);
+        self.give(seat, found, false);
         answer
     }
 
-    /// Takes the turn and adds the entry of the seat's node. It asks for a step of the node, after what the seat knows.
+    /// Takes the turn and adds the entry of the seat's node. It asks for a step of the node, after
+    /// what the seat knows.
     ///
     /// # Errors
     ///
-    /// Those of the book that is found at the turn. After a limit the seat says that it is full, and it keeps the entry and
-    /// the cause where that book had no refused entry. After [`NoMemory`](AddFault::NoMemory) the book and the seat's two
-    /// lists are as before.
+    /// Those of the book that is found at the turn. After a limit the seat says that it is full,
+    /// and it keeps the entry and the cause where that book had no refused entry. After
+    /// [`NoMemory`](AddFault::NoMemory) the book and the seat's two lists are as before.
     pub fn append<R: Wait>(
         &self,
         rt: &R,

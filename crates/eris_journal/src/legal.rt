@@ -7,8 +7,9 @@ use crate::add_fault::AddFault;
 use crate::fetched::Fetched;
 use eris_base::NoMemory;
 
-/// A book of entries, each of one node, and of the packets that the nodes fetched. Its entries send packets, which are
-/// numbered from 0 in the order of the entries; of these each node fetches its own, the least number first.
+/// A book of entries, each of one node, and of the packets that the nodes fetched. Its entries send
+/// packets, which are numbered from 0 in the order of the entries; of these each node fetches its
+/// own, the least number first.
 pub trait Legal: Drop {
     /// What is added.
     type Entry: Drop;
@@ -35,7 +36,8 @@ pub trait Legal: Drop {
     fn pending(&self, node: u32) -> Option<u32>
         ensures { result ≡ pending sends (entries self.now) (fetches self.now) node };
 
-    /// Hands out the packet that is pending for the node, if one is, and notes it as fetched. It asks for a legal book.
+    /// Hands out the packet that is pending for the node, if one is, and notes it as fetched. It
+    /// asks for a legal book.
     ///
     /// # Errors
     ///
@@ -53,8 +55,9 @@ pub trait Legal: Drop {
     ///
     /// # Errors
     ///
-    /// A limit that the entry would pass; the first entry that one refuses is kept, and from then on each
-    /// entry is refused for its cause. After [`NoMemory`](AddFault::NoMemory) the book is as before.
+    /// A limit that the entry would pass; the first entry that one refuses is kept, and from then
+    /// on each entry is refused for its cause. After [`NoMemory`](AddFault::NoMemory) the book is
+    /// as before.
     fn add(&mut self, node: u32, entry: Self::Entry) -> Result<(), AddFault>
         requires legal { legal self.old }
         requires step { is_step node (own node (entries self.old)) (own node (fetches self.old)) entry }

@@ -3,8 +3,9 @@ use crate::views::{Part, View};
 use atomic_table::Seat;
 use std::marker::Model;
 
-/// One node's seat at a journal, with which a thread takes its turns. Contracts see its node, what the book has of the
-/// node, whether an entry of it met a limit, how often it took the turn, and the book that it found there last.
+/// One node's seat at a journal, with which a thread takes its turns. Contracts see its node, what
+/// the book has of the node, whether an entry of it met a limit, how often it took the turn, and
+/// the book that it found there last.
 #[derive(Drop)]
 pub struct NodeSeat<L: Legal> {
     pub(crate) node: u32,

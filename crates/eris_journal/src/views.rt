@@ -1,10 +1,12 @@
-//! What the threads know of the book. No value of these types is made: they are what clauses and the rule speak of.
+//! What the threads know of the book. No value of these types is made: they are what clauses and
+//! the rule speak of.
 
 use crate::add_fault::AddFault;
 use crate::fetched::Fetched;
 use std::collections::LinkedList;
 
-/// What a book has of one node: its entries, its fetched packets, and the refused entry where it is the node's.
+/// What a book has of one node: its entries, its fetched packets, and the refused entry where it is
+/// the node's.
 pub struct Part<E> {
     /// The entries, in order.
     pub entries: LinkedList<E>,
