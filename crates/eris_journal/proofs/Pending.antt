@@ -26,10 +26,10 @@ says_more node base first rest fetched None here says = all
     all zero packet is goes = subst (λ (n : ℕ). is_fetched n fetched ≡ true) (omega arith) (here (ap (λ (p : Packet). p.0) (some_same first packet is) ∙ goes))
     all (suc place) packet is goes = subst (λ (n : ℕ). is_fetched n fetched ≡ true) (omega arith) (says place packet is goes)
 says_more node base first rest fetched (Some number) here says = (
-    suc says.0,
-    omega (arith, says.1),
-    (says.2.0, subst (λ (n : ℕ). is_fetched n fetched ≡ false) (omega arith) says.2.1, before),
-  )
+  suc says.0,
+  omega (arith, says.1),
+  (says.2.0, subst (λ (n : ℕ). is_fetched n fetched ≡ false) (omega arith) says.2.1, before),
+)
   where
     before : (other : ℕ) (packet : Packet) → other < suc says.0 → slice_get (first ∷ rest) other ≡ Some packet → packet.0 ≡ node → is_fetched (base + other) fetched ≡ true
     before zero packet low is goes = subst (λ (n : ℕ). is_fetched n fetched ≡ true) (omega arith) (here (ap (λ (p : Packet). p.0) (some_same first packet is) ∙ goes))

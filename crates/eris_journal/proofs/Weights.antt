@@ -28,6 +28,6 @@ module _ {E : Type 0} (weight : E → ℕ) where
   weigh_by_nodes (x ∷ xs) nodes below =
       let rest = weigh_by_nodes xs nodes below.1 in
       let all = total_one (λ (node : ℕ). weigh weight (own node (x ∷ xs))) (λ (node : ℕ). weigh weight (own node xs)) x.0 (weight x.1) nodes below.0
-          (weigh_first x.0 x xs true (eq-eqb x.0 x.0 refl))
-          (λ node apart. weigh_first node x xs false (ne_eqb x.0 node (λ e. apart (sym e)))) in
+      (weigh_first x.0 x xs true (eq-eqb x.0 x.0 refl))
+      (λ node apart. weigh_first node x xs false (ne_eqb x.0 node (λ e. apart (sym e)))) in
       omega (arith, rest, all)

@@ -90,8 +90,8 @@ module _ (entries : List (ℕ × List (ℕ × ℕ))) (fetches : List (ℕ × Fet
   next_pends : (node : ℕ) → node < 16 → (answer : Option ℕ) → IsNext pairs node (slice_index cursors node) answer → pending_from node 0 (map packet_of pairs) (own node fetches) ≡ answer
   next_pends node low None next = let cursor = index.cursor node low in nothing_is_pending node (map packet_of pairs) (own node fetches)
       (λ number packet is goes. dite (dec_le (slice_index cursors node) number)
-        (λ (above : slice_index cursors node ≤ number). let from = map_from packet_of pairs number packet is in absurd (next number from.0 above from.1 (ap (λ (p : Packet). p.0) from.2 ∙ goes)))
-        (λ (below : slice_index cursors node ≤ number → ⊥). cursor.below number packet (lt_of_not-le below) is goes))
+      (λ (above : slice_index cursors node ≤ number). let from = map_from packet_of pairs number packet is in absurd (next number from.0 above from.1 (ap (λ (p : Packet). p.0) from.2 ∙ goes)))
+      (λ (below : slice_index cursors node ≤ number → ⊥). cursor.below number packet (lt_of_not-le below) is goes))
   next_pends node low (Some number) next = let cursor = index.cursor node low in least_is_pending node (map packet_of pairs) (own node fetches) number (
     (next.1.0 ∷ [], map_at packet_of pairs number (node, next.1.0) next.1.1),
     not_fetched number (own node fetches) (Each-weaker (λ (packet : Fetched). packet.number < slice_index cursors node) (λ (packet : Fetched). packet.number < number) (λ packet under. omega (arith, under, next.0)) (own node fetches) cursor.above),
@@ -123,16 +123,16 @@ module _ (entries : List (ℕ × List (ℕ × ℕ))) (fetches : List (ℕ × Fet
       let at = pending_at node number is in
       let cursor = index.cursor node at.0 in
       let passed : slice_index cursors node ≤ number = dite (dec_le (slice_index cursors node) number) (λ (le : slice_index cursors node ≤ number). le)
-              (λ (not : slice_index cursors node ≤ number → ⊥). absurd (true≢false (sym (cursor.below number (node, least.0.0) (lt_of_not-le not) least.0.1 refl) ∙ least.1))) in
+      (λ (not : slice_index cursors node ≤ number → ⊥). absurd (true≢false (sym (cursor.below number (node, least.0.0) (lt_of_not-le not) least.0.1 refl) ∙ least.1))) in
       let mine : own node (fetches ++ (node, packet) ∷ []) ≡ own node fetches ++ packet ∷ [] = own_here node node packet fetches refl in
       let moves : IsCursor node (number + 1) (map packet_of pairs) (own node fetches ++ packet ∷ []) = record {
-              within = (let many = length-map pairs packet_of in omega (arith, many, at.1));
-              below = λ other sent_there under there goes. dite (ℕ_discrete other number)
-                  (λ (last : other ≡ number). fetched_last other (own node fetches) packet (same ∙ sym last))
-                  (λ (earlier : other ≢ number). fetched_more other (own node fetches) packet (least.2 other sent_there (omega (arith, under, earlier)) there goes));
-              above = Each-append (λ (p : Fetched). p.number < number + 1) (own node fetches) (packet ∷ [])
-                  (Each-weaker (λ (p : Fetched). p.number < slice_index cursors node) (λ (p : Fetched). p.number < number + 1) (λ p under. omega (arith, under, passed)) (own node fetches) cursor.above) (omega (arith, same), tt);
-            } in
+        within = (let many = length-map pairs packet_of in omega (arith, many, at.1));
+        below = λ other sent_there under there goes. dite (ℕ_discrete other number)
+            (λ (last : other ≡ number). fetched_last other (own node fetches) packet (same ∙ sym last))
+            (λ (earlier : other ≢ number). fetched_more other (own node fetches) packet (least.2 other sent_there (omega (arith, under, earlier)) there goes));
+        above = Each-append (λ (p : Fetched). p.number < number + 1) (own node fetches) (packet ∷ [])
+            (Each-weaker (λ (p : Fetched). p.number < slice_index cursors node) (λ (p : Fetched). p.number < number + 1) (λ p under. omega (arith, under, passed)) (own node fetches) cursor.above) (omega (arith, same), tt);
+      } in
       moved (fetches ++ (node, packet) ∷ []) node (number + 1) at.0 (subst (IsCursor node (number + 1) (map packet_of pairs)) (sym mine) moves) (λ other apart. own_else other node packet fetches (λ e. apart (sym e)))
 
   -- after nothing was pending

@@ -26,4 +26,4 @@ abbrev pub IsNext : List (ℕ × ℕ) → ℕ → ℕ → Option ℕ → Type 0
 IsNext pairs node from answer = MatchOption answer
     ((place : ℕ) (pair : ℕ × ℕ) → from ≤ place → slice_get pairs place ≡ Some pair → pair.0 ≢ node)
     (λ number. (from ≤ number) × ((byte : ℕ) × (slice_get pairs number ≡ Some (node, byte)))
-      × ((place : ℕ) (pair : ℕ × ℕ) → from ≤ place → place < number → slice_get pairs place ≡ Some pair → pair.0 ≢ node))
+    × ((place : ℕ) (pair : ℕ × ℕ) → from ≤ place → place < number → slice_get pairs place ≡ Some pair → pair.0 ≢ node))

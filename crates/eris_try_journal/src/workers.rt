@@ -109,8 +109,7 @@ impl Worker {
         ensures journal { IsSeatOf journal.now self.new.seat }
         ensures node { self.new.seat.node ≡ self.old.seat.node }
     {
-        let done = self.turns(rt, alloc, journal, count)
-            && self.wait_for(rt, journal, stop, count);
+        let done = self.turns(rt, alloc, journal, count) && self.wait_for(rt, journal, stop, count);
         if !done {
             stop.store(true, Ordering::SeqCst);
         }

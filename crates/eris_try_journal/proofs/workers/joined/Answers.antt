@@ -11,7 +11,7 @@ loop-worker-preserved c =
     let some : vec_len c.pop.new.self < vec_len c.loop-worker.workers = search rules in
     let next : vec_len c.loop-worker.workers ≡ vec_len c.pop.new.self + 1 = search rules in
     let one : (k : ℕ) (d : Worker) → k < vec_len c.pop.new.self → get_or c.pop.new.self.items k d ≡ get_or c.loop-worker.workers.items k d =
-            (λ k d lt. ap (λ xs. get_or xs k d) c.pop.ensures.rest ∙ get_or-take (vec_len c.loop-worker.workers - 1) c.loop-worker.workers.items k d (omega arith)) in (
+    (λ k d lt. ap (λ xs. get_or xs k d) c.pop.ensures.rest ∙ get_or-take (vec_len c.loop-worker.workers - 1) c.loop-worker.workers.items k d (omega arith)) in (
       search rules,
       search rules,
       (λ k d lt. subst (λ (w : Worker). IsSeatOf c.args.journal.now w.seat × (w.seat.node ≡ k)) (sym (one k d lt)) (i.2 k d (omega arith))),
