@@ -1,0 +1,2 @@
+//! In which ranges the fields of a report are. They are definitions; this crate has no code.
+#![tactic(auto)]
