@@ -5,7 +5,7 @@ use Rattle.eris_stream.specs.Transfers.{ReadsToEnd}
 use Rattle.eris_drill_run.specs.Days.{MeetsLimit, SummarizesDay}
 use Rattle.eris_status.specs.declared.due.Due.{Due}
 use Rattle.eris_status.specs.declared.status.Status.{Status}
-use Rattle.eris_status.specs.declared.status.Status.TheVariants.{Done, CheckedNo, Usage, BadScript, ReadFault, WriteFault, NoMemory, TooLarge}
+use Rattle.eris_status.specs.declared.status.Status.TheVariants.{Done, CheckedNo, Usage, BadScript, ReadFault, WriteFault, NoMemory, TooLarge, BadReport}
 use Rattle.eris_status.specs.Statuses.{IfBadScript, IfTooLarge}
 use Rattle.eris_run.specs.Calls.{RefusesLarge, RefusesLine, input_limit}
 use Rattle.eris_cmd.specs.declared.command.Command.{Command}
@@ -54,6 +54,7 @@ module _ (left left' taken taken' : Option (List ℕ)) where
   lines_told bytes text WriteFault came written says = tt
   lines_told bytes text NoMemory came written says = tt
   lines_told bytes text (TooLarge line) came written says = tt
+  lines_told bytes text (BadReport line) came written says = tt
 
   large_told : (bytes text : List ℕ) (line : ℕ) → Comes left left' bytes → Appends taken taken' text → RefusesLarge bytes text line → RefusesLargeInput left left' taken taken' line
   large_told bytes text line comes written (inl (here, input)) =
@@ -74,6 +75,7 @@ module _ (left left' taken taken' : Option (List ℕ)) where
   larges_told bytes text WriteFault comes written says = tt
   larges_told bytes text NoMemory comes written says = tt
   larges_told bytes text (TooLarge line) comes written says = large_told bytes text line comes written says
+  larges_told bytes text (BadReport line) comes written says = tt
 
 limits_told : (taken taken' : Option (List ℕ)) (number : ℕ) (text : List ℕ) (status : Status) → Appends taken taken' text → IfTooLarge status (MeetsLimit number text) → IfTooLarge status (λ line. Tells taken taken' (λ text. MeetsLimit number text line))
 limits_told taken taken' number text Done written says = tt
@@ -84,6 +86,7 @@ limits_told taken taken' number text ReadFault written says = tt
 limits_told taken taken' number text WriteFault written says = tt
 limits_told taken taken' number text NoMemory written says = tt
 limits_told taken taken' number text (TooLarge line) written says = record { text = text; written = written; holds = says }
+limits_told taken taken' number text (BadReport line) written says = tt
 
 -- WHAT IS DUE, WRITTEN
 pub told : {command : Command} {left left' taken taken' : Option (List ℕ)} {due : Due} → IsDueFor command left left' due → Appends taken taken' due.text → Told command left left' taken taken' due.status

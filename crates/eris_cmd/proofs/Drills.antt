@@ -5,7 +5,7 @@ use Rattle.eris_words.specs.Decimal.{read_decimal}
 use Rattle.eris_words.proofs.DecimalLaws.{read_decimal-decimal, read_decimal_only}
 use Rattle.eris_words.specs.declared.reason.Reason.{Reason}
 use Rattle.eris_status.specs.declared.status.Status.{Status}
-use Rattle.eris_status.specs.declared.status.Status.TheVariants.{Done, CheckedNo, Usage, BadScript, ReadFault, WriteFault, NoMemory, TooLarge}
+use Rattle.eris_status.specs.declared.status.Status.TheVariants.{Done, CheckedNo, Usage, BadScript, ReadFault, WriteFault, NoMemory, TooLarge, BadReport}
 use Rattle.eris_status.specs.Statuses.{IfBadScript}
 use Rattle.eris_cmd.specs.Commands.{IsDrill, IsKnown, IsNumberWord, IsRun}
 
@@ -64,6 +64,7 @@ no_bad_script P ReadFault never = tt
 no_bad_script P WriteFault never = tt
 no_bad_script P NoMemory never = tt
 no_bad_script P (TooLarge line) never = tt
+no_bad_script P (BadReport line) never = tt
 
 pub with_cause : {P : Type 0} (Q : ℕ → Reason → Type 0) (status : Status) → P → IfBadScript status Q → IfBadScript status (λ line reason. P × Q line reason)
 with_cause Q Done cause holds = tt
@@ -74,6 +75,7 @@ with_cause Q ReadFault cause holds = tt
 with_cause Q WriteFault cause holds = tt
 with_cause Q NoMemory cause holds = tt
 with_cause Q (TooLarge line) cause holds = tt
+with_cause Q (BadReport line) cause holds = tt
 
 -- words of neither form
 pub unknown : {words : List (List ℕ)} → (IsRun words → ⊥) → ((number : ℕ) → IsDrill words number → ⊥) → IsKnown words → ⊥

@@ -1,6 +1,6 @@
 use Rattle.std.specs.Prelude.{◌≡◌, ℕ, ⊤}
 use Rattle.eris_status.specs.declared.status.Status.{Status}
-use Rattle.eris_status.specs.declared.status.Status.TheVariants.{Done, CheckedNo, Usage, BadScript, ReadFault, WriteFault, NoMemory, TooLarge}
+use Rattle.eris_status.specs.declared.status.Status.TheVariants.{Done, CheckedNo, Usage, BadScript, ReadFault, WriteFault, NoMemory, TooLarge, BadReport}
 use Rattle.eris_status.specs.declared.due.Due.{Due}
 use Rattle.eris_status.specs.declared.refused.Refused.{Refused}
 use Rattle.eris_status.specs.declared.refused.Why.{Why}
@@ -18,6 +18,7 @@ status_number ReadFault = 4
 status_number WriteFault = 5
 status_number NoMemory = 6
 status_number (TooLarge line) = 7
+status_number (BadReport line) = 8
 
 -- the status of a refused line
 abbrev pub status_of : ℕ → Why → Status
@@ -34,6 +35,7 @@ IfBadScript ReadFault P = ⊤
 IfBadScript WriteFault P = ⊤
 IfBadScript NoMemory P = ⊤
 IfBadScript (TooLarge line) P = ⊤
+IfBadScript (BadReport line) P = ⊤
 
 -- what holds where the status is that of too large an input, or of a line with too large an event
 abbrev pub IfTooLarge : Status → (ℕ → Type 0) → Type 0
@@ -45,8 +47,21 @@ IfTooLarge ReadFault P = ⊤
 IfTooLarge WriteFault P = ⊤
 IfTooLarge NoMemory P = ⊤
 IfTooLarge (TooLarge line) P = P line
+IfTooLarge (BadReport line) P = ⊤
 
--- a status with which a text is due, of a word that isn't `check`
+-- what holds where the status names the first line with which bytes are no report
+abbrev pub IfBadReport : Status → (ℕ → Type 0) → Type 0
+IfBadReport Done P = ⊤
+IfBadReport CheckedNo P = ⊤
+IfBadReport Usage P = ⊤
+IfBadReport (BadScript line reason) P = ⊤
+IfBadReport ReadFault P = ⊤
+IfBadReport WriteFault P = ⊤
+IfBadReport NoMemory P = ⊤
+IfBadReport (TooLarge line) P = ⊤
+IfBadReport (BadReport line) P = P line
+
+-- a status with which a text is due, of a word that reads or makes a script
 abbrev pub HasText : Status → Type 0
 HasText Done = ⊤
 HasText CheckedNo = ⊥
@@ -56,6 +71,19 @@ HasText ReadFault = ⊥
 HasText WriteFault = ⊥
 HasText NoMemory = ⊥
 HasText (TooLarge line) = ⊤
+HasText (BadReport line) = ⊥
+
+-- a status with which a text is due, of the word that judges a report
+abbrev pub HasVerdict : Status → Type 0
+HasVerdict Done = ⊤
+HasVerdict CheckedNo = ⊤
+HasVerdict Usage = ⊥
+HasVerdict (BadScript line reason) = ⊥
+HasVerdict ReadFault = ⊥
+HasVerdict WriteFault = ⊥
+HasVerdict NoMemory = ⊥
+HasVerdict (TooLarge line) = ⊤
+HasVerdict (BadReport line) = ⊤
 
 -- the status and the text are those for a refused line
 pub record IsRefusal (refused : Refused) (due : Due) : Type 0 where

@@ -8,7 +8,7 @@ use eris_words::Reason;
 pub enum Status {
     /// The call did what its words ask, and wrote its text.
     Done,
-    /// A report breaks a rule of serial orders.
+    /// The report that was read breaks a rule of serial orders.
     CheckedNo,
     /// The words are none that the call knows. Nothing was read or written.
     Usage,
@@ -23,10 +23,12 @@ pub enum Status {
     /// Line 0: the source gave more bytes than a script may have. Else an event of this line would send
     /// more than may be sent.
     TooLarge { line: u32 },
+    /// The bytes are no report: this is the first line with which they aren't, lines counted from 1.
+    BadReport { line: u32 },
 }
 
 impl Status {
-    /// The number that the program ends with, 0 to 7.
+    /// The number that the program ends with, 0 to 8.
     pub fn number(&self) -> u8
         ensures { result ≡ status_number self.now }
     {
@@ -39,6 +41,7 @@ impl Status {
             Status::WriteFault => 5,
             Status::NoMemory => 6,
             Status::TooLarge { .. } => 7,
+            Status::BadReport { .. } => 8,
         }
     }
 }
