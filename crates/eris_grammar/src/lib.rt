@@ -24,4 +24,6 @@ pub use grammar::every_line_is_read_as_spelled;
 pub use header::Header;
 pub use header_line::parse_header;
 pub use line::Line;
+pub use op_line::ops_of;
 pub use parse::parse_line;
+pub use plan_line::plan_of;

@@ -68,13 +68,14 @@ pub(crate) fn most(version: u8) -> usize
     if version == 1 { 16 } else { 32 }
 }
 
-/// The operations of a transaction, to the end of the line.
+/// The operations of a transaction, to the end of the line, in the ranges of version 1 or 2.
+///
+/// # Errors
+///
+/// `Bad` exactly where the words are no such operations; the first word that doesn't fit gives the
+/// reason. `NoMemory` where an allocation was refused.
 #[tactic(auto, unfolding(crate::specs::OpForms::ops_of))]
-pub(crate) fn ops_of(
-    alloc: Global,
-    version: u8,
-    words: &mut LineWords,
-) -> Result<Row<Op>, LineFault>
+pub fn ops_of(alloc: Global, version: u8, words: &mut LineWords) -> Result<Row<Op>, LineFault>
     ensures { Gives (λ ops. ops) result (form.ops_of version words.old) }
 {
     let ops = all_ops(alloc, version, words)?;

@@ -124,9 +124,14 @@ fn planned(
     }
 }
 
-/// A plan, to the end of the line.
+/// A plan, to the end of the line, in the ranges of version 1 or 2; its clauses may stand in any order.
+///
+/// # Errors
+///
+/// `Bad` exactly where the words are no such plan: the first word that doesn't fit gives the reason, or
+/// the rule of plans that is broken. `NoMemory` where an allocation was refused.
 #[tactic(auto, unfolding(crate::specs::PlanForms::plan_of))]
-pub(crate) fn plan_of(alloc: Global, version: u8, words: &mut LineWords) -> Result<Plan, LineFault>
+pub fn plan_of(alloc: Global, version: u8, words: &mut LineWords) -> Result<Plan, LineFault>
     ensures { Gives (λ plan. plan) result (form.plan_of version words.old) }
 {
     words.expect(b"lock")?;
