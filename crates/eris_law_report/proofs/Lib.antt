@@ -1,0 +1,12 @@
+pub mod Cells
+pub mod ClientEvents
+pub mod Decided
+pub mod Fields
+pub mod Histories
+pub mod RangedEvents
+pub mod RangedWorlds
+pub mod Reports
+pub mod Results
+pub mod Scripts
+pub mod Sending
+pub mod Versions
