@@ -1,0 +1,2 @@
+pub mod PutLines
+pub mod ReadLines

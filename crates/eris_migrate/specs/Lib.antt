@@ -1,0 +1,3 @@
+pub mod Migrated
+pub mod Migrations
+pub mod Unread
