@@ -1,0 +1,9 @@
+use Rattle.std.proofs.Common.{ap, ◌∙◌, ℕ, List, arith}
+use Rattle.std.proofs.lemmas.List.{nil_from_length}
+use Rattle.eris_check.specs.FullLines.{full_lines}
+use Rattle.eris_check.specs.TextReading.{text_read}
+use Rattle.eris_check.proofs.FullLineLaws.{no_lines}
+use Rattle.eris_check.proofs.parse.read_text.Goals as goal
+
+pub returns-then-is_empty : goal.returns-then-is_empty
+returns-then-is_empty c = ap (λ (z : List ℕ). text_read (full_lines z)) (nil_from_length _ (grind arith)) ∙ ap text_read no_lines
