@@ -1,0 +1,2 @@
+mod EventScripts
+mod Ink

@@ -1,0 +1,9 @@
+pub mod Firsts
+pub mod Growing
+pub mod LiveRuns
+pub mod Nodes
+pub mod OneStep
+pub mod Replays
+pub mod Taken
+pub mod Told
+pub mod Waiting

@@ -1,0 +1,5 @@
+pub mod FirstDeliveries
+pub mod LiveBooks
+pub mod LiveNodes
+pub mod LiveSteps
+pub mod OwnStates
