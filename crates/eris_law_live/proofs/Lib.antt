@@ -3,6 +3,7 @@ pub mod Growing
 pub mod LiveRuns
 pub mod Nodes
 pub mod OneStep
+pub mod Owners
 pub mod Replays
 pub mod Taken
 pub mod Told

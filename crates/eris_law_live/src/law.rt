@@ -2,6 +2,7 @@ ghost use Rattle.std.specs.Prelude.{◌≡◌, ◌<◌, ◌≤◌, ◌+◌, ℕ,
 ghost use Rattle.eris_base.specs.Each.{Each};
 ghost use Rattle.eris_base.specs.declared.ids.Node.{Node};
 ghost use Rattle.eris_event.specs.declared.event.Event.{Event};
+ghost use Rattle.eris_event.specs.EventRanges.{fits_event};
 ghost use Rattle.eris_journal.specs.Lists.{own};
 ghost use Rattle.eris_journal.specs.Packets.{sent};
 ghost use Rattle.eris_journal.specs.Parts.{Refused};
@@ -15,7 +16,7 @@ ghost use Rattle.eris_rules.specs.Refusals.{cause, limit_met, refusal};
 ghost use Rattle.eris_rules.specs.Runs.{run};
 ghost use Rattle.eris_rules.specs.Worlds.{WorldState};
 ghost use Rattle.eris_law_live.specs.declared.entry.LiveEntry.{LiveEntry};
-ghost use Rattle.eris_law_live.specs.FirstDeliveries.{firsts, is_delivered, undelivered};
+ghost use Rattle.eris_law_live.specs.FirstDeliveries.{IsOwnDelivery, firsts, is_delivered, undelivered};
 ghost use Rattle.eris_law_live.specs.LiveBooks.{IsLiveBook, LiveEntries, WasSent, all_events, all_sent, is_live, live_sends, node_of_event, packet_of, refusal_of};
 ghost use Rattle.eris_law_live.specs.LiveNodes.{live_config, node_of, number_of};
 ghost use Rattle.eris_law_live.specs.LiveSteps.{IsLiveStep, own_step, replay};
@@ -81,4 +82,17 @@ pub fn undelivered_packets_wait()
 pub fn first_deliveries_are_few()
     ensures few { (events : List Event) (world : WorldState) → Each (λ event. is_live event ≡ true) events → run live_config events ≡ Some world → firsts [] events ≤ length world.sent }
     ensures parts { (before some more : List Event) → firsts before (some ++ more) ≡ firsts before some + firsts (before ++ some) more }
+{}
+
+/// In the book of a live run a packet is delivered by the node that it went to, and by no other. The call does nothing;
+/// its contract is the law.
+pub fn packets_are_delivered_by_their_nodes()
+    ensures own { (entries : LiveEntries) (fetches : List (ℕ × Fetched)) (refused : Option (Refused LiveEntry)) (book : IsLiveBook entries fetches refused) → Each (λ x. IsOwnDelivery book.world.sent x.0 x.1.event) entries }
+{}
+
+/// The events of the book of a live run are of its kinds, and each has a line in a script of version 1. The call does
+/// nothing; its contract is the law.
+pub fn books_have_live_events()
+    ensures kinds { (entries : LiveEntries) (fetches : List (ℕ × Fetched)) (refused : Option (Refused LiveEntry)) (book : IsLiveBook entries fetches refused) → Each (λ event. is_live event ≡ true) (all_events entries) }
+    ensures ranges { (entries : LiveEntries) (fetches : List (ℕ × Fetched)) (refused : Option (Refused LiveEntry)) (book : IsLiveBook entries fetches refused) → Each (λ event. fits_event 1 event ≡ true) (all_events entries) }
 {}
