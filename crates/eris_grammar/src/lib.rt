@@ -19,6 +19,7 @@ mod op_line;
 mod parse;
 mod plan_line;
 
+pub use clause::Clause;
 pub use event_text::print_event;
 pub use grammar::every_line_is_read_as_spelled;
 pub use header::Header;

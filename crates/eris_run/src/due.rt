@@ -1,12 +1,11 @@
 ghost use Rattle.std.specs.Prelude.{◌≡◌, ◌≤◌, length, IfOk};
 ghost use Rattle.eris_run.specs.Calls.{input_limit};
 ghost use Rattle.eris_run.specs.Dues.{IsDue, IsJudged};
-ghost use Rattle.eris_status.specs.Texts.{too_large_text};
 
 use crate::script_run::run_bytes;
 use eris_base::NoMemory;
 use eris_report::print_report;
-use eris_status::{Due, Status, Stop, refuse_line, too_large_text};
+use eris_status::{Due, Status, Stop, refuse_input, refuse_line};
 use std::alloc::Global;
 
 /// How many bytes a script may have.
@@ -27,21 +26,6 @@ pub fn script_due(alloc: Global, bytes: &[u8]) -> Result<Due, NoMemory>
         return refuse_input(alloc);
     }
     judge(alloc, bytes)
-}
-
-/// What is due for more bytes than an input may have, whatever they are: `too large: input`.
-///
-/// # Errors
-///
-/// [`NoMemory`] where an allocation was refused.
-pub fn refuse_input(alloc: Global) -> Result<Due, NoMemory>
-    ensures { IfOk result (λ due. (due.status ≡ Status.TooLarge 0) × (due.text ≡ too_large_text)) }
-{
-    let text = too_large_text(alloc)?;
-    Ok(Due {
-        status: Status::TooLarge { line: 0 },
-        text,
-    })
 }
 
 // What is due for these bytes, which are few enough to be a script.

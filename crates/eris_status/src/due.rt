@@ -1,9 +1,10 @@
 ghost use Rattle.std.specs.Prelude.{◌≡◌, IfOk};
 ghost use Rattle.eris_status.specs.Statuses.{HasText, IsRefusal, status_of};
+ghost use Rattle.eris_status.specs.Texts.{too_large_text};
 
 use crate::refused::{Refused, Why};
 use crate::status::Status;
-use crate::texts::refusal_text;
+use crate::texts::{refusal_text, too_large_text};
 use eris_base::{NoMemory, Row};
 use std::alloc::Global;
 
@@ -37,6 +38,21 @@ pub fn refuse_line(alloc: Global, refused: Refused) -> Result<Due, NoMemory>
     let text = refusal_text(alloc, refused)?;
     Ok(Due {
         status: status_of(refused.line, refused.why),
+        text,
+    })
+}
+
+/// What is due for more bytes than an input may have, whatever they are: `too large: input`.
+///
+/// # Errors
+///
+/// [`NoMemory`] where an allocation was refused.
+pub fn refuse_input(alloc: Global) -> Result<Due, NoMemory>
+    ensures { IfOk result (λ due. (due.status ≡ Status.TooLarge 0) × (due.text ≡ too_large_text)) }
+{
+    let text = too_large_text(alloc)?;
+    Ok(Due {
+        status: Status::TooLarge { line: 0 },
         text,
     })
 }

@@ -8,7 +8,7 @@ mod status;
 mod telling;
 mod texts;
 
-pub use due::{Due, refuse_line};
+pub use due::{Due, refuse_input, refuse_line};
 pub use failure::Failure;
 pub use refused::{Refused, Stop, Why, stop_at};
 pub use status::Status;
