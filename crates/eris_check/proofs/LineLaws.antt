@@ -1,4 +1,5 @@
--- A line of a report is read exactly where it is the text of something that it says, in range; and the text is cut behind it.
+-- A line of a report is read exactly where it is the text of something that it says, in range; and
+-- a report's bytes are cut behind it.
 use Rattle.std.proofs.Common.{◌≡◌, ◌∙◌, ◌&&◌, ◌≤◌, ℕ, Bool, true, false, cond, nat_le, codes, Option, Some, None, Ok, Err, List, [], ◌∷◌, ◌++◌, refl, sym, ap, subst, append_assoc, arith, lit<}
 use Rattle.std.specs.List.{join_with_byte}
 use Rattle.std.proofs.lemmas.Bool.Decides.{nat_tests}

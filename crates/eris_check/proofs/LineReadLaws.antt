@@ -1,4 +1,4 @@
--- The words of a line are read exactly where they are the words of something that it says, in range.
+-- The words of a line are read exactly where they are those of something that it says, in range.
 use Rattle.std.proofs.Common.{◌≡◌, ◌∙◌, ◌&&◌, ℕ, Bool, true, nat_le, codes, Ok, List, [], ◌∷◌, length, map, refl, sym, ap, subst, lit<}
 use Rattle.std.specs.List.{list_all}
 use Rattle.eris_audit.specs.declared.order_line.OrderLine.{OrderLine}

@@ -1,4 +1,5 @@
--- The lines of the order, of replicas and of the coordinator, and the last two, are read as just what they spell.
+-- The lines of the order, of replicas and of the coordinator, and the last two, are read as just
+-- what they spell.
 use Rattle.std.proofs.Common.{◌≡◌, ◌∙◌, ◌&&◌, ℕ, Bool, true, false, cond, nat_le, codes, Ok, Err, List, [], ◌∷◌, map, refl, sym, ap, subst, lit<}
 use Rattle.std.specs.List.{list_all}
 use Rattle.std.proofs.lemmas.Bool.{and_from}

@@ -1,4 +1,5 @@
--- A plan that is read with its guards before its settings has exactly the words that a report writes of it.
+-- A plan that is read with its guards before its settings has exactly the words that a report
+-- writes of it.
 use Rattle.std.proofs.Common.{◌≡◌, ◌-◌, ◌^◌, ◌&&◌, ◌∙◌, ℕ, true, false, not, cond, bytes_eq, nat_le, codes, List, [], ◌∷◌, ◌++◌, map, refl, sym, ap, append_assoc, lit<, leb-true, lt_of_le_of_lt}
 use Rattle.std.specs.List.{flat_map, list_all}
 use Rattle.std.proofs.lemmas.List.Concat.{flat_map-cons}

@@ -1,4 +1,5 @@
--- THE BYTES OF A REPORT'S WORDS: each is above 32, so none is a space, at which a line is cut, or LF, which would end the line.
+-- THE BYTES OF A REPORT'S WORDS: each is above 32, so none is a space, at which a line is cut, or
+-- LF, which would end the line.
 use Rattle.std.proofs.Common.{◌≡◌, ◌<◌, ◌-◌, ◌^◌, ◌&&◌, ◌∙◌, ℕ, Bool, true, not, nat_le, nat_lt, List, [], ◌∷◌, ◌++◌, length, map, refl, ap, arith, codes, lit<, leb-true, lt_of_le_of_lt}
 use Rattle.std.proofs.lemmas.Bool.Decides.{nat_tests}
 use Rattle.std.proofs.lemmas.Bool.{and_from}
@@ -27,6 +28,7 @@ use Rattle.eris_words.proofs.LineLemmas.{joined}
 use Rattle.eris_grammar.proofs.PlanLaws.{fits_plan}
 use Rattle.eris_check.proofs.FullLineLaws.{are_inner, is_inner}
 
+-- a byte that is neither a space nor below it
 abbrev pub is_visible : ℕ → Bool
 is_visible byte = nat_lt 32 byte
 
