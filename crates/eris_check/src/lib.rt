@@ -13,6 +13,7 @@ mod fixed_words;
 mod head_line;
 mod history_line;
 mod items;
+mod law;
 mod order_line;
 mod parse;
 mod plan_line;
@@ -21,4 +22,5 @@ mod replicas;
 mod report_line;
 
 pub use fault::ReportFault;
+pub use law::{bytes_are_judged, no_bytes_misfit_at_one};
 pub use parse::parse_report;

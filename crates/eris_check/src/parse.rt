@@ -1,5 +1,6 @@
-ghost use Rattle.std.specs.Prelude.{◌<◌, ◌+◌, length};
+ghost use Rattle.std.specs.Prelude.{◌<◌, ◌+◌, length, IfErr, IfOk};
 ghost use Rattle.eris_check.specs.FullLines.{full_lines};
+ghost use Rattle.eris_check.specs.ReportTexts.{IsTextOf, Tells};
 ghost use Rattle.eris_check.specs.TextReading.{Reads, behind_title, body_read, text_read};
 
 use crate::cutting::first_full_line;
@@ -67,19 +68,20 @@ fn read_text(alloc: Global, bytes: &[u8]) -> Result<Report, ReportFault>
     }
 }
 
-/// The report that the bytes, fewer than 4,294,967,295, say line by line; docs/SCRIPT.md has the grammar
-/// and the ranges, under "Reports that are read". The time is linear in the bytes, and no word of them is
-/// copied.
+/// The report in range of which the bytes, fewer than 4,294,967,295, are the text; docs/SCRIPT.md
+/// has the grammar and the ranges, under "Reports that are read". `print_report` of it gives the
+/// bytes again. The time is linear in the bytes, and no word of them is copied.
 ///
 /// # Errors
 ///
-/// `Bad` where a line doesn't fit behind those before it, with the number of the first such line. A line
-/// goes up to its LF, and what stands behind the last LF is a line too. Where all lines fit and the text
-/// isn't at its end, the number is one more than that of the lines. `NoMemory` where an allocation was
-/// refused.
+/// `Bad` exactly where the bytes are no report text, with their first misfit: the number of the
+/// first line with which the lines up to it begin no report text. A line goes up to its LF, and
+/// what stands behind the last LF is a line too. Where all lines begin a report text, the number is
+/// one more than that of the lines. `NoMemory` where an allocation was refused.
 pub fn parse_report(alloc: Global, bytes: &[u8]) -> Result<Report, ReportFault>
     requires { length bytes.now < 4294967295 }
-    ensures { Reads result (text_read (full_lines bytes.now)) }
+    ensures ok { IfOk result (λ report. IsTextOf report bytes.now) }
+    ensures err { IfErr result (λ fault. Tells bytes.now fault) }
 {
     read_text(alloc, bytes)
 }
