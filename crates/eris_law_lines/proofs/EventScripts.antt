@@ -52,7 +52,7 @@ at_place [] place ink = refl
 at_place (byte ∷ text) zero ink = no_return byte (left_of (is_ink byte) (are_ink text) ink)
 at_place (byte ∷ text) (suc place) ink = at_place text place (right_of (is_ink byte) (are_ink text) ink)
 
-stripped : (text : List ℕ) → are_ink text ≡ true → strip_carriage_return text ≡ text
+pub stripped : (text : List ℕ) → are_ink text ≡ true → strip_carriage_return text ≡ text
 stripped text ink = by_test (slice_index text (length text - 1) == 13) (at_place text (length text - 1) ink)
   where
     by_test : (test : Bool) → test ≡ false → cond test (take (length text - 1) text) text ≡ text
@@ -122,7 +122,7 @@ sizes version config fits = of_version (version == 1) fits
 version_small : (header : Header) → IsHeader header → nat_le header.version 255 ≡ true
 version_small header is = elim is.known [ inl one ↦ le-leb header.version 255 (omega (arith, one)) | inr two ↦ le-leb header.version 255 (omega (arith, two)) ]
 
-header_inked : (header : Header) → IsHeader header → are_inked (header_words header) ≡ true
+pub header_inked : (header : Header) → IsHeader header → are_inked (header_words header) ≡ true
 header_inked header is =
     let small = sizes header.version header.config is.fits in
     and_from (are_ink (decimal header.version)) (are_inked (decimal header.config.shards ∷ decimal header.config.f ∷ decimal header.config.clients ∷ []))
@@ -145,7 +145,7 @@ header_plain header is =
     (plain-append (decimal header.config.shards ∷ []) (decimal header.config.f ∷ decimal header.config.clients ∷ []) (decimal_plain header.config.shards small.0)
     (plain-append (decimal header.config.f ∷ []) (decimal header.config.clients ∷ []) (decimal_plain header.config.f small.1) (decimal_plain header.config.clients small.2)))
 
-header_back : (header : Header) → IsHeader header → header_of (header_text header) ≡ Ok header
+pub header_back : (header : Header) → IsHeader header → header_of (header_text header) ≡ Ok header
 header_back header is =
     header_read (header_text header) header (record {
       spelled = words_joined (codes "eris") (decimal header.version ∷ decimal header.config.shards ∷ decimal header.config.f ∷ decimal header.config.clients ∷ []) (header_plain header is);

@@ -43,18 +43,18 @@ are_ink text = list_all is_ink text
 abbrev pub are_inked : List (List ℕ) → Bool
 are_inked words = list_all are_ink words
 
-ink-append : (xs ys : List ℕ) → are_ink xs ≡ true → are_ink ys ≡ true → are_ink (xs ++ ys) ≡ true
+pub ink-append : (xs ys : List ℕ) → are_ink xs ≡ true → are_ink ys ≡ true → are_ink (xs ++ ys) ≡ true
 ink-append [] ys left right = right
 ink-append (x ∷ xs) ys left right = and_from (is_ink x) (are_ink (xs ++ ys)) (left_of (is_ink x) (are_ink xs) left) (ink-append xs ys (right_of (is_ink x) (are_ink xs) left) right)
 
-inked-append : (xs ys : List (List ℕ)) → are_inked xs ≡ true → are_inked ys ≡ true → are_inked (xs ++ ys) ≡ true
+pub inked-append : (xs ys : List (List ℕ)) → are_inked xs ≡ true → are_inked ys ≡ true → are_inked (xs ++ ys) ≡ true
 inked-append [] ys left right = right
 inked-append (x ∷ xs) ys left right = and_from (are_ink x) (are_inked (xs ++ ys)) (left_of (are_ink x) (are_inked xs) left) (inked-append xs ys (right_of (are_ink x) (are_inked xs) left) right)
 
-inked-one : (word : List ℕ) → are_ink word ≡ true → are_inked (word ∷ []) ≡ true
+pub inked-one : (word : List ℕ) → are_ink word ≡ true → are_inked (word ∷ []) ≡ true
 inked-one word ink = and_from (are_ink word) true ink refl
 
-inked-more : (word : List ℕ) (words : List (List ℕ)) → are_ink word ≡ true → are_inked words ≡ true → are_inked (word ∷ words) ≡ true
+pub inked-more : (word : List ℕ) (words : List (List ℕ)) → are_ink word ≡ true → are_inked words ≡ true → are_inked (word ∷ words) ≡ true
 inked-more word words ink more = and_from (are_ink word) (are_inked words) ink more
 
 spaced_ink : (words : List (List ℕ)) → are_inked words ≡ true → are_ink (spaced words) ≡ true
@@ -91,10 +91,10 @@ number_ink n small = digits_ink (decimal n) (digits_of_decimal n small)
 pub low_ink : (limit n : ℕ) → limit < 2 ^ 64 → nat_le n limit ≡ true → are_ink (decimal n) ≡ true
 low_ink limit n small low = number_ink n (lt_of_le_of_lt (leb-true n limit low) small)
 
-small_ink : (n : ℕ) → nat_le n 255 ≡ true → are_ink (decimal n) ≡ true
+pub small_ink : (n : ℕ) → nat_le n 255 ≡ true → are_ink (decimal n) ≡ true
 small_ink n low = low_ink 255 n (lit< tt) low
 
-count_ink : (n : ℕ) → nat_le n (2 ^ 32 - 1) ≡ true → are_ink (decimal n) ≡ true
+pub count_ink : (n : ℕ) → nat_le n (2 ^ 32 - 1) ≡ true → are_ink (decimal n) ≡ true
 count_ink n low = low_ink (2 ^ 32 - 1) n (lit< tt) low
 
 value_ink : (n : ℕ) → fits_value n ≡ true → are_ink (decimal n) ≡ true
@@ -132,7 +132,7 @@ key_ink version key fits =
     (ink-append (decimal key.shard.0) (codes "/") (shard_ink version key.shard.0 (left_of (nat_le key.shard.0 (last_shard version)) (is_name key.name) fits)) refl)
     (name_bytes_ink key.name bytes)
 
-keys_ink : (version : ℕ) (keys : List Key) → list_all (fits_key version) keys ≡ true → are_inked (map key_word keys) ≡ true
+pub keys_ink : (version : ℕ) (keys : List Key) → list_all (fits_key version) keys ≡ true → are_inked (map key_word keys) ≡ true
 keys_ink version [] all = refl
 keys_ink version (key ∷ keys) all =
     inked-more (key_word key) (map key_word keys) (key_ink version key (left_of (fits_key version key) (list_all (fits_key version) keys) all))
@@ -163,10 +163,10 @@ ops_ink version (op ∷ ops) fits =
     (each_inked next_op_words (fits_op version) (λ one fine. op_ink version one fine) ops (right_of (fits_op version op) (list_all (fits_op version) ops) all))
 
 -- ---- plans
-guard_ink : (version : ℕ) (guard : Guard) → fits_guard version guard ≡ true → are_inked (guard_words guard) ≡ true
+pub guard_ink : (version : ℕ) (guard : Guard) → fits_guard version guard ≡ true → are_inked (guard_words guard) ≡ true
 guard_ink version guard fits = key_and_value version guard.key guard.least fits
 
-setting_ink : (version : ℕ) (setting : Setting) → fits_setting version setting ≡ true → are_inked (setting_words setting) ≡ true
+pub setting_ink : (version : ℕ) (setting : Setting) → fits_setting version setting ≡ true → are_inked (setting_words setting) ≡ true
 setting_ink version setting fits = by_how setting.how fits
   where
     by_how : (done : How) → (fits_key version setting.key && fits_value (number_of done)) ≡ true → are_inked (codes ";" ∷ how_words done setting.key) ≡ true
@@ -227,7 +227,7 @@ deliver_ink version packet (Some epoch) fits =
     inked-more (decimal packet) (decimal epoch.0 ∷ []) (count_ink packet (left_of (nat_le packet (2 ^ 32 - 1)) (nat_le epoch.0 (2 ^ 32 - 1)) fits))
     (inked-one (decimal epoch.0) (count_ink epoch.0 (right_of (nat_le packet (2 ^ 32 - 1)) (nat_le epoch.0 (2 ^ 32 - 1)) fits)))
 
-words_ink : (version : ℕ) (e : Event) → fits_event version e ≡ true → are_inked (event_words version e) ≡ true
+pub words_ink : (version : ℕ) (e : Event) → fits_event version e ≡ true → are_inked (event_words version e) ≡ true
 words_ink version (event.Submit c ops) fits =
     inked-more (decimal c.0) (ops_words ops) (small_ink c.0 (left_of (fits_client c) (are_ops version ops) fits)) (ops_ink version ops (right_of (fits_client c) (are_ops version ops) fits))
 words_ink version (event.General c plan) fits =

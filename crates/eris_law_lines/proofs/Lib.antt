@@ -1,2 +1,2 @@
-mod EventScripts
-mod Ink
+pub mod EventScripts
+pub mod Ink
