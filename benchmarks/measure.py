@@ -10,6 +10,9 @@ usage: measure.py [PROGRAM]     the program is crates/eris/out/eris where none i
   delivered before, so the time per delivery should stay the same.
 - `busy`: submissions over 4 shards of 3 replicas, each followed by its deliveries. The time of each next
   thousand is compared with that of the first.
+- `check`: a serial report of so many submissions, answers and order lines is judged. Twice as many should take
+  about twice the time; the memory is compared with the bytes of the report.
+- `migrate`: a script of `retry` lines as long as a script may be, and one of half its length.
 
 Nothing here is a test: the figures are the machine's, and only their ratios say something.
 """
@@ -37,12 +40,12 @@ def high_water(pid):
     return 0
 
 
-def run(program, script):
-    """The seconds of processor time that the script takes, and the most KiB of memory that were seen."""
+def run(program, script, word="run"):
+    """The seconds of processor time that the word takes on the text, and the most KiB of memory that were seen."""
     with tempfile.TemporaryFile() as source:
         source.write(script)
         source.seek(0)
-        child = subprocess.Popen([program, "run"], stdin=source, stdout=subprocess.DEVNULL)
+        child = subprocess.Popen([program, word], stdin=source, stdout=subprocess.DEVNULL)
         most = 0
         while True:
             most = max(most, high_water(child.pid))
@@ -51,7 +54,7 @@ def run(program, script):
                 break
     child.returncode = os.waitstatus_to_exitcode(status)
     if child.returncode != 0:
-        sys.exit(f"the script ended with status {child.returncode}")
+        sys.exit(f"{word} ended with status {child.returncode}")
     return usage.ru_utime + usage.ru_stime, most
 
 
@@ -94,11 +97,41 @@ def busy(program):
         before = seconds
 
 
+def judged(program):
+    tail = b"replica 0 0 normal epoch 0 view 0 held 0 length 0 settled 0\n"
+    tail += b"coordinator epoch 0 target 0 found 0 dropped 0\nsent 0\nend\n"
+    first = None
+    for count in (200000, 400000):
+        lines = [b"eris report 1\nconfig 1 0 1\n"]
+        for number in range(1, count + 1):
+            lines.append(b"submit 0.%d put 0/k%d 7\nanswer 0.%d ok\n" % (number, number % 97, number))
+        for number in range(1, count + 1):
+            lines.append(b"order 0.%d done 0 0:%d\n" % (number, number))
+        report = b"".join(lines) + tail
+        seconds, most = run(program, report, "check")
+        first = first or seconds
+        print(f"check      {count:7} submissions {seconds:6.2f} s, {seconds / first:5.2f} of the first;"
+              f"  {most * 1024 / len(report):5.1f} bytes of memory for each byte of the report")
+
+
+def migrated(program):
+    head = b"eris 1 1 0 1\n"
+    first = None
+    for count in (209714, 419429):
+        script = head + b"retry 0 1\n" * count
+        seconds, most = run(program, script, "migrate")
+        first = first or seconds
+        print(f"migrate    {len(script):7} bytes {seconds:8.2f} s, {seconds / first:5.2f} of the first;"
+              f"  {most * 1024 / len(script):5.1f} bytes of memory for each byte of the script")
+
+
 def main():
     program = os.path.abspath(sys.argv[1]) if len(sys.argv) > 1 else PROGRAM
     retries(program)
     deliveries(program)
     busy(program)
+    judged(program)
+    migrated(program)
 
 
 main()

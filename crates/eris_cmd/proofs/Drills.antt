@@ -1,13 +1,9 @@
--- The words of a drill, read and told apart. Used where the words of the command line are read.
-use Rattle.std.proofs.Common.{◌≡◌, inl, inr, ◌≤◌, ℕ, Bool, IsTrue, bytes_eq, IfSome, Option, Some, None, List, [], ◌∷◌, codes, length, get_or, map, ap, sym, ◌∙◌, arith, lit<, subst}
+-- The words of a drill, read. Used where the words of the command line are read.
+use Rattle.std.proofs.Common.{◌≡◌, ◌≤◌, ℕ, Bool, IsTrue, bytes_eq, IfSome, Option, Some, None, List, [], ◌∷◌, codes, length, get_or, map, ap, sym, ◌∙◌, arith, lit<, subst}
 use Rattle.std.proofs.lemmas.Slice.Eq.{bytes_eq-Decides}
 use Rattle.eris_words.specs.Decimal.{read_decimal}
 use Rattle.eris_words.proofs.DecimalLaws.{read_decimal-decimal, read_decimal_only}
-use Rattle.eris_words.specs.declared.reason.Reason.{Reason}
-use Rattle.eris_status.specs.declared.status.Status.{Status}
-use Rattle.eris_status.specs.declared.status.Status.TheVariants.{Done, CheckedNo, Usage, BadScript, ReadFault, WriteFault, NoMemory, TooLarge, BadReport}
-use Rattle.eris_status.specs.Statuses.{IfBadScript}
-use Rattle.eris_cmd.specs.Commands.{IsDrill, IsKnown, IsNumberWord, IsRun}
+use Rattle.eris_cmd.specs.Commands.{IsDrill, IsNumberWord}
 
 pub reads : (word : List ℕ) (number : ℕ) → read_decimal 500 word ≡ Some number → 1 ≤ number → IsNumberWord word number
 reads word number read some = let only = read_decimal_only 500 word number (lit< tt) read in record { is = only.0; some = some; few = only.1 }
@@ -48,36 +44,6 @@ same_number words n m one other =
     let second = read_back other.word m other.written in
     cc
 
-pub run_or_drill : (words : List (List ℕ)) (number : ℕ) → IsRun words → IsDrill words number → ⊥
-run_or_drill words number run drill = let are = drill.are in cc
-
 -- what holds of the drill that is run holds of any that the words name: it is the same
 pub for_number : {words : List (List ℕ)} {n : ℕ} (P : ℕ → Type 0) → IsDrill words n → P n → (m : ℕ) → IsDrill words m → P m
 for_number {words} {n} P known holds m asked = subst P (same_number words n m known asked) holds
-
-pub no_bad_script : (P : ℕ → Reason → Type 0) (status : Status) → IfBadScript status (λ line reason. ⊥) → IfBadScript status P
-no_bad_script P Done never = tt
-no_bad_script P CheckedNo never = tt
-no_bad_script P Usage never = tt
-no_bad_script P (BadScript line reason) never = absurd never
-no_bad_script P ReadFault never = tt
-no_bad_script P WriteFault never = tt
-no_bad_script P NoMemory never = tt
-no_bad_script P (TooLarge line) never = tt
-no_bad_script P (BadReport line) never = tt
-
-pub with_cause : {P : Type 0} (Q : ℕ → Reason → Type 0) (status : Status) → P → IfBadScript status Q → IfBadScript status (λ line reason. P × Q line reason)
-with_cause Q Done cause holds = tt
-with_cause Q CheckedNo cause holds = tt
-with_cause Q Usage cause holds = tt
-with_cause Q (BadScript line reason) cause holds = (cause, holds)
-with_cause Q ReadFault cause holds = tt
-with_cause Q WriteFault cause holds = tt
-with_cause Q NoMemory cause holds = tt
-with_cause Q (TooLarge line) cause holds = tt
-with_cause Q (BadReport line) cause holds = tt
-
--- words of neither form
-pub unknown : {words : List (List ℕ)} → (IsRun words → ⊥) → ((number : ℕ) → IsDrill words number → ⊥) → IsKnown words → ⊥
-unknown run drill (inl is) = run is
-unknown run drill (inr named) = drill named.0 named.1

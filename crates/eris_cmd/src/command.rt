@@ -1,7 +1,8 @@
-ghost use Rattle.std.specs.Prelude.{◌≡◌, ◌↔◌, ◌≤◌, ℕ, map, string_bytes, IfSome, IsTrue, None};
-ghost use Rattle.eris_cmd.specs.Commands.{IsDrill, IsKnown, IsNumberWord, IsRun};
+ghost use Rattle.std.specs.Prelude.{◌≡◌, ◌≤◌, ℕ, ◌∷◌, [], codes, map, string_bytes, IfSome, None, Some};
+ghost use Rattle.eris_cmd.specs.Commands.{IsDrill, IsKnown, IsNumberWord, IsReader};
 ghost use Rattle.eris_cmd.specs.Named.{Names, input_limit_of};
 
+use eris_check_run::CHECK_LIMIT;
 use eris_run::INPUT_LIMIT;
 use eris_words::read_number;
 use std::marker::Model;
@@ -11,6 +12,10 @@ use std::marker::Model;
 pub enum Command {
     /// A script is run, and the report of the world after it is due.
     Run,
+    /// A report is judged: whether its history is serial in its order, else which rule is broken first.
+    Check,
+    /// A script of version 1 is written in the spelling of version 2.
+    Migrate,
     /// The drill of this number is run, and the summary of its day is due. Nothing is read.
     Drill(DrillNumber),
 }
@@ -54,18 +59,15 @@ impl DrillNumber {
 }
 
 impl Command {
-    /// What the words ask for. None exactly where they are neither `run` alone nor `drill N` with N from 1 to
-    /// 500, written without a leading zero. It takes no memory.
+    /// What the words ask for. None exactly where they are neither `run`, `check` or `migrate` alone nor
+    /// `drill N` with N from 1 to 500, written without a leading zero. It takes no memory.
     pub fn from_words(words: &[String]) -> Option<Command>
         ensures some { IfSome result (Names (map string_bytes words.now)) }
         ensures none { result ≡ None → IsKnown (map string_bytes words.now) → ⊥ }
     {
-        if is_run(words) {
-            return Some(Command::Run);
-        }
         match drill_of(words) {
             Some(number) => Some(Command::Drill(number)),
-            None => None,
+            None => reader_of(words),
         }
     }
 
@@ -74,19 +76,37 @@ impl Command {
         ensures { result ≡ input_limit_of self.now }
     {
         match self {
-            Command::Run => Some(INPUT_LIMIT),
+            Command::Run | Command::Migrate => Some(INPUT_LIMIT),
+            Command::Check => Some(CHECK_LIMIT),
             Command::Drill(_) => None,
         }
     }
 }
 
-// Whether the words are `run` alone.
-fn is_run(words: &[String]) -> bool
-    ensures { IsTrue result ↔ IsRun (map string_bytes words.now) }
+// The command that reads its input and that the words name; None where they name none.
+fn reader_of(words: &[String]) -> Option<Command>
+    ensures some { IfSome result (Names (map string_bytes words.now)) }
+    ensures none { result ≡ None → IsReader (map string_bytes words.now) → ⊥ }
 {
     match words {
-        [word] => word.as_str() == "run",
-        _ => false,
+        [word] => command_of(word.as_str()),
+        _ => None,
+    }
+}
+
+// The command that reads its input and has this word alone.
+fn command_of(word: &str) -> Option<Command>
+    ensures some { IfSome result (Names (word.now ∷ [])) }
+    ensures none { result ≡ None → IsReader (word.now ∷ []) → ⊥ }
+{
+    if word == "run" {
+        Some(Command::Run)
+    } else if word == "check" {
+        Some(Command::Check)
+    } else if word == "migrate" {
+        Some(Command::Migrate)
+    } else {
+        None
     }
 }
 

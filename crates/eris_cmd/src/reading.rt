@@ -1,13 +1,12 @@
-ghost use Rattle.std.specs.Prelude.{◌≡◌, ◌≤◌, ℕ, Err, Some, IfOk, IfSome};
+ghost use Rattle.std.specs.Prelude.{◌≡◌, ◌≤◌, ℕ, Err, None, Some, IfOk, IfSome};
 ghost use Rattle.eris_stream.specs.Faults.{Rose};
 ghost use Rattle.eris_cmd.specs.Named.{input_limit_of};
+ghost use Rattle.eris_cmd.specs.Answers.{IsDueOf};
 ghost use Rattle.eris_cmd.specs.Streams.{IsDueFor};
-ghost use Rattle.eris_run.specs.Calls.{status_due};
 
-use crate::answering::answer;
+use crate::answering::due_for;
 use crate::command::Command;
-use eris_run::refuse_input;
-use eris_status::{Due, Failure};
+use eris_status::{Due, Failure, refuse_input};
 use eris_stream::{ReadEnd, Source, read_all};
 use std::alloc::Global;
 
@@ -22,14 +21,14 @@ pub(crate) fn due_of<S: Source>(
     src: &mut S,
 ) -> Result<Due, Failure>
     ensures ok { IfOk result (IsDueFor command (S.left src.old) (S.left src.new)) }
-    ensures all { IfSome (S.left src.old) (λ left. IfOk result (λ due. command ≡ Command.Run → due.status ≡ status_due left)) }
-    ensures fault { result ≡ Err Failure.Fault → (command ≡ Command.Run) × Rose (S.faults src.old) (S.faults src.new) }
-    ensures untouched { (number : ℕ) → command ≡ Command.Drill number → src.new ≡ src.old }
+    ensures all { IfSome (S.left src.old) (λ left. IfOk result (IsDueOf command left)) }
+    ensures fault { result ≡ Err Failure.Fault → ((limit : ℕ) × (input_limit_of command ≡ Some limit)) × Rose (S.faults src.old) (S.faults src.new) }
+    ensures untouched { input_limit_of command ≡ None → src.new ≡ src.old }
     ensures later { S.faults src.old ≤ S.faults src.new }
 {
     match command.input_limit() {
         Some(limit) => read_and_answer(alloc, command, limit, src),
-        None => Ok(answer(alloc, command, b"")?),
+        None => Ok(due_for(alloc, command, b"")?),
     }
 }
 
@@ -42,12 +41,12 @@ fn read_and_answer<S: Source>(
 ) -> Result<Due, Failure>
     requires { input_limit_of command ≡ Some limit }
     ensures ok { IfOk result (IsDueFor command (S.left src.old) (S.left src.new)) }
-    ensures all { IfSome (S.left src.old) (λ left. IfOk result (λ due. command ≡ Command.Run → due.status ≡ status_due left)) }
+    ensures all { IfSome (S.left src.old) (λ left. IfOk result (IsDueOf command left)) }
     ensures fault { result ≡ Err Failure.Fault → Rose (S.faults src.old) (S.faults src.new) }
     ensures later { S.faults src.old ≤ S.faults src.new }
 {
     match read_all(alloc, src, limit) {
-        Ok(bytes) => Ok(answer(alloc, command, bytes.as_slice())?),
+        Ok(bytes) => Ok(due_for(alloc, command, bytes.as_slice())?),
         Err(ReadEnd::Long) => Ok(refuse_input(alloc)?),
         Err(ReadEnd::Fault) => Err(Failure::Fault),
         Err(ReadEnd::NoMemory) => Err(Failure::NoMemory),

@@ -12,6 +12,15 @@ pub(crate) fn commented(alloc: Global, length: usize) -> Result<String, AllocErr
     Ok(script)
 }
 
+/// So many dashes, which are no report.
+pub(crate) fn dashes(alloc: Global, length: usize) -> Result<String, AllocError> {
+    let mut text = String::new(alloc);
+    for _ in 0..length {
+        text.push('-')?;
+    }
+    Ok(text)
+}
+
 /// A script that submits these operations, and then sends their request again so often.
 pub(crate) fn retried(alloc: Global, ops: &str, retries: u32) -> Result<String, AllocError> {
     let mut script = format!(in alloc; "{HEADER}submit 0 {ops}\n")?;
