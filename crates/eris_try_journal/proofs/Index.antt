@@ -1,5 +1,5 @@
 -- A small book's index finds what is pending, and stays right.
-use Rattle.std.proofs.Common.{◌≡◌, ◌≢◌, ◌||◌, ℕ, zero, suc, ◌+◌, ◌-◌, ◌<◌, ◌≤◌, ◌^◌, eqb, Bool, true, false, true≢false, List, [], ◌∷◌, ◌++◌, map, length, length-append, get_or, set, length-set, get_or-set_same, get_or-set_other, refl, sym, ap, ◌∙◌, subst, arith, Some, None, Option, slice_get, slice_index, replicate, append_assoc, lt_of_not-le, eq-eqb, ne_eqb, MatchOption, nat_le}
+use Rattle.std.proofs.Common.{◌≡◌, ◌≢◌, ◌||◌, ℕ, ◌+◌, ◌<◌, ◌≤◌, eqb, Bool, true, false, true≢false, List, [], ◌∷◌, ◌++◌, map, length, length-append, get_or, set, length-set, get_or-set_same, get_or-set_other, refl, sym, ap, ◌∙◌, subst, arith, Some, None, Option, slice_get, slice_index, append_assoc, lt_of_not-le, eq-eqb, ne_eqb, MatchOption}
 use mathlib.Core.Logic.{dite}
 use mathlib.Core.List.{map-append}
 use lib.ListN.{length-map}
@@ -10,7 +10,6 @@ use Rattle.eris_journal.specs.Lists.{own}
 use Rattle.eris_journal.specs.Packets.{Packet, sent, is_fetched, pending, pending_from, IsNothing, IsLeast}
 use Rattle.eris_journal.specs.declared.fetched.Fetched.{Fetched}
 use Rattle.eris_journal.proofs.Lists.{own_here, own_else}
-use Rattle.eris_journal.proofs.Books.{none_is_not}
 use Rattle.eris_journal.proofs.Calls.{some_same}
 use Rattle.eris_journal.proofs.Pending.{pending_says, nothing_is_pending, least_is_pending}
 use Rattle.eris_try_journal.specs.Bytes.{packet_of, sends, GoesBelow, IsNext}

@@ -1,5 +1,6 @@
 -- Which seats were joined.
-use Rattle.std.proofs.Common.{◌≡◌, ◌≢◌, ℕ, zero, suc, length, take, ◌++◌, ◌+◌, ◌<◌, ◌≤◌, List, [], ◌∷◌, refl, sym, ap, ◌∙◌, subst, arith, inl, inr}
+use Rattle.std.proofs.Common.{◌≡◌, ◌≢◌, ℕ, zero, suc, length, take, get_or, ◌++◌, ◌+◌, ◌-◌, ◌<◌, ◌≤◌, List, [], ◌∷◌, refl, sym, ap, ◌∙◌, subst, arith, inl, inr}
+use Rattle.std.proofs.lemmas.List.{get_or-take}
 use mathlib.Core.Logic.{dite}
 use native.Mathlib.Decide.{ℕ_discrete}
 use Rattle.eris_journal.specs.Lists.{Has}
@@ -19,6 +20,11 @@ all_back [] ys zero e = refl
 all_back [] ys (suc n) e = absurd (omega (arith, e))
 all_back (x ∷ xs) ys zero e = absurd (omega (arith, e))
 all_back (x ∷ xs) ys (suc n) e = ap (λ l. x ∷ l) (all_back xs ys n (omega (arith, e)))
+
+-- what holds of each place of a list, after the last was taken off
+pub one_off : {A : Type 0} (P : ℕ → A → Type 0) (xs ys : List A) (many few : ℕ) → many ≡ few + 1 → ys ≡ take (many - 1) xs → ((i : ℕ) (d : A) → i < many → P i (get_or xs i d)) → (i : ℕ) (d : A) → i < few → P i (get_or ys i d)
+one_off {A} P xs ys many few next rest each i d low =
+    subst (λ (l : List A). P i (get_or l i d)) (sym rest) (subst (P i) (sym (get_or-take (many - 1) xs i d (omega (arith, low, next)))) (each i d (omega (arith, low, next))))
 
 module _ {L E : Type 0} where
   pub one_more : (low count : ℕ) (before after : List (Joined (Part E))) (seat : SeatValue L E) → after ≡ left_by_seat seat ∷ before → seat.node ≡ low → FromOn (low + 1) count before → FromOn low count after

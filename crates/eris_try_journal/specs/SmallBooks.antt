@@ -1,5 +1,5 @@
 -- What contracts see of a small book, and how it finds what is pending.
-use Rattle.std.specs.Prelude.{◌≡◌, ℕ, ◌<◌, ◌≤◌, ◌^◌, true, List, map, length, Option, None, Some, slice_get, slice_index}
+use Rattle.std.specs.Prelude.{◌≡◌, ℕ, ◌<◌, ◌≤◌, ◌^◌, true, List, map, length, Option, Some, slice_get, slice_index}
 use Rattle.eris_base.specs.Each.{Each}
 use Rattle.eris_journal.specs.Lists.{own}
 use Rattle.eris_journal.specs.Packets.{Packet, sent, is_fetched}

@@ -9,6 +9,8 @@
 //!   many entries the closed book has, whether those of each node are in the order in which they
 //!   were added, and whether each packet was fetched once.
 //! - `plain NODES ENTRIES`: the same entries and packets in the book alone, with no journal.
+//! - `look NODES`: each node adds one entry and looks once, and all look once more, each from a
+//!   thread of its own. It prints the same of the closed book.
 //!
 //! Any other line is printed as it is.
 #![tactic(auto)]
@@ -16,6 +18,7 @@
 ghost use Rattle.std.specs.Prelude.{◌≤◌, IfOk};
 
 mod book;
+mod crew;
 mod entries;
 mod pair;
 mod ring;
@@ -31,6 +34,7 @@ use std::alloc::Global;
 use std::sync::Wait;
 use std::thread::Threads;
 use tells::Told;
+use workers::Work;
 
 fn main(rt: HostRuntime) -> anyhow::Result<()> {
     for line in rt.lines(rt.alloc()) {
@@ -53,7 +57,11 @@ fn tell<R: Threads + Wait + Sync>(
     match line.split_once(' ') {
         Some(("ring", words)) => {
             let (nodes, count) = sizes(words)?;
-            sum_up(alloc, told, &ring(rt, alloc, nodes, count)?, nodes, count)
+            ring_of(rt, alloc, told, nodes, count, count)
+        }
+        Some(("look", word)) => {
+            let nodes = nodes_of(word)?;
+            ring_of(rt, alloc, told, nodes, 1, 0)
         }
         Some(("plain", words)) => {
             let (nodes, count) = sizes(words)?;
@@ -70,11 +78,38 @@ fn sizes(words: &str) -> anyhow::Result<(u32, u32)>
     ensures { IfOk result (λ r. (1 ≤ r.0) × (r.0 ≤ 16)) }
 {
     let (nodes, count) = words.split_once(' ').context("two sizes")?;
-    let nodes = nodes.parse::<u32>()?;
+    Ok((nodes_of(nodes)?, count.parse::<u32>()?))
+}
+
+// How many nodes there are.
+fn nodes_of(word: &str) -> anyhow::Result<u32>
+    ensures { IfOk result (λ nodes. (1 ≤ nodes) × (nodes ≤ 16)) }
+{
+    let nodes = word.parse::<u32>()?;
     if nodes == 0 || nodes > NODES {
         bail!("the number of nodes is 1 to 16");
     }
-    Ok((nodes, count.parse::<u32>()?))
+    Ok(nodes)
+}
+
+// A ring in which each node adds so many entries and waits for so many packets.
+fn ring_of<R: Threads + Wait + Sync>(
+    rt: &R,
+    alloc: Global,
+    told: &mut Told,
+    nodes: u32,
+    entries: u32,
+    packets: u32,
+) -> anyhow::Result<()>
+    requires { (1 ≤ nodes) × (nodes ≤ 16) }
+{
+    let work = Work {
+        alloc,
+        nodes,
+        entries,
+        packets,
+    };
+    sum_up(alloc, told, &ring(rt, work)?, nodes, entries)
 }
 
 // What a ring's book has.

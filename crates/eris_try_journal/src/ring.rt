@@ -3,8 +3,9 @@ ghost use Rattle.eris_journal.specs.Packets.{sent};
 ghost use Rattle.eris_try_journal.specs.Bytes.{sends};
 
 use crate::book::SmallBook;
+use crate::crew::{join_all, split_all};
 use crate::entries::entry_of;
-use crate::workers::{joined, run_all, seated};
+use crate::workers::{Work, run_all};
 use anyhow::bail;
 use eris_base::NoMemory;
 use eris_journal::{Journal, Legal};
@@ -12,20 +13,15 @@ use std::alloc::Global;
 use std::sync::Wait;
 use std::thread::Threads;
 
-/// The nodes send in a ring, each from a thread of its own: this many entries of one packet each.
-pub(crate) fn ring<R: Threads + Wait + Sync>(
-    rt: &R,
-    alloc: Global,
-    nodes: u32,
-    count: u32,
-) -> Result<SmallBook, NoMemory>
-    requires { (1 ≤ nodes) × (nodes ≤ 16) }
+/// The nodes send in a ring, each from a thread of its own.
+pub(crate) fn ring<R: Threads + Wait + Sync>(rt: &R, work: Work) -> Result<SmallBook, NoMemory>
+    requires { (1 ≤ work.nodes) × (work.nodes ≤ 16) }
 {
-    let book = SmallBook::new(alloc, u32::MAX);
-    let (journal, mut hand) = Journal::start(alloc, book, nodes)?;
-    let mut workers = seated(alloc, &journal, &mut hand, nodes)?;
-    run_all(rt, alloc, &journal, count, workers.as_mut_slice());
-    joined(&journal, &mut hand, workers);
+    let book = SmallBook::new(work.alloc, u32::MAX);
+    let (journal, mut hand) = Journal::start(work.alloc, book, work.nodes)?;
+    let mut seats = split_all(work.alloc, &journal, &mut hand, work.nodes)?;
+    run_all(rt, &journal, work, seats.as_mut_slice());
+    join_all(&journal, &mut hand, seats);
     Ok(journal.close(hand))
 }
 

@@ -1,3 +1,8 @@
+ghost use Rattle.std.specs.Prelude.{◌≡◌, ◌≤◌, length, None, IfOk, OnOk};
+ghost use Rattle.eris_journal.specs.Packets.{sent};
+ghost use Rattle.eris_journal.specs.Parts.{NamesNodes};
+ghost use Rattle.eris_try_journal.specs.Bytes.{sends};
+
 use crate::book::SmallBook;
 use crate::entries::entry_of;
 use crate::pair::Pair;
@@ -9,38 +14,112 @@ use std::sync::Wait;
 
 /// Node 0 sends a byte to node 1, which fetches it. Then the closed book is started again.
 pub(crate) fn deliver<R: Wait>(rt: &R, alloc: Global, told: &mut Told) -> anyhow::Result<()> {
-    let book = SmallBook::new(alloc, 100);
-    told.pending(alloc, 1, book.pending(1))?;
-    let mut pair = Pair::of(alloc, book)?;
-    pair.append(rt, alloc, told, 7)?;
-    pair.fetch(rt, alloc, told)?;
-    pair.fetch(rt, alloc, told)?;
-    let book = pair.close();
-    told.book(alloc, &book)?;
-    if book.refused().is_some() {
-        bail!("an entry was refused");
-    }
-    told.line("again")?;
-    let mut pair = Pair::of(alloc, book)?;
-    pair.fetch(rt, alloc, told)?;
-    pair.append(rt, alloc, told, 8)?;
-    let book = pair.close();
-    told.book(alloc, &book)?;
-    Ok(told.pending(alloc, 1, book.pending(1))?)
+    let book = delivered(rt, alloc, told)?;
+    told_free(alloc, told, &book)?;
+    let book = delivered_again(rt, alloc, told, book)?;
+    told_at_end(alloc, told, &book)
 }
 
 /// A book that takes one packet refuses the second, and keeps it.
 pub(crate) fn refuse<R: Wait>(rt: &R, alloc: Global, told: &mut Told) -> anyhow::Result<()> {
-    let mut pair = Pair::of(alloc, SmallBook::new(alloc, 1))?;
-    pair.append(rt, alloc, told, 1)?;
-    pair.append(rt, alloc, told, 2)?;
-    pair.append(rt, alloc, told, 3)?;
-    pair.fetch(rt, alloc, told)?;
+    let book = refused(rt, alloc, told)?;
+    told_whole(alloc, told, &book)
+}
+
+// The book in which node 0 sent a byte to node 1, which looked for it twice.
+fn delivered<R: Wait>(rt: &R, alloc: Global, told: &mut Told) -> anyhow::Result<SmallBook>
+    ensures legal { IfOk result (λ book. length (sent sends book.entries) ≤ book.most) }
+    ensures names { IfOk result (λ book. NamesNodes (λ b. b.entries) (λ b. b.fetches) (λ b. b.refused) 2 book) }
+{
+    told.pending(alloc, 1, SmallBook::new(alloc, 100).pending(1))?;
+    let mut pair = Pair::of(alloc, SmallBook::new(alloc, 100))?;
+    let done = pair.send_and_look_twice(rt, alloc, told);
     let book = pair.close();
-    Ok(told.book(alloc, &book)?)
+    done?;
+    Ok(book)
+}
+
+// What the book has, in which no entry was refused.
+fn told_free(alloc: Global, told: &mut Told, book: &SmallBook) -> anyhow::Result<()>
+    ensures { OnOk result (book.now.refused ≡ None) }
+{
+    told.book(alloc, book)?;
+    if book.refused().is_some() {
+        bail!("an entry was refused");
+    }
+    Ok(told.line("again")?)
+}
+
+// The book, started again, in which node 1 looked again and node 0 sent another byte.
+fn delivered_again<R: Wait>(
+    rt: &R,
+    alloc: Global,
+    told: &mut Told,
+    book: SmallBook,
+) -> anyhow::Result<SmallBook>
+    requires legal { length (sent sends book.entries) ≤ book.most }
+    requires refused { book.refused ≡ None }
+    requires names { NamesNodes (λ b. b.entries) (λ b. b.fetches) (λ b. b.refused) 2 book }
+{
+    let mut pair = Pair::of(alloc, book)?;
+    let done = pair.look_and_send(rt, alloc, told);
+    let book = pair.close();
+    done?;
+    Ok(book)
+}
+
+fn told_at_end(alloc: Global, told: &mut Told, book: &SmallBook) -> anyhow::Result<()> {
+    told.book(alloc, book)?;
+    Ok(told.pending(alloc, 1, book.pending(1))?)
+}
+
+// The book that takes one packet and was given three.
+fn refused<R: Wait>(rt: &R, alloc: Global, told: &mut Told) -> anyhow::Result<SmallBook> {
+    let mut pair = Pair::of(alloc, SmallBook::new(alloc, 1))?;
+    let done = pair.send_three_and_look(rt, alloc, told);
+    let book = pair.close();
+    done?;
+    Ok(book)
+}
+
+fn told_whole(alloc: Global, told: &mut Told, book: &SmallBook) -> anyhow::Result<()> {
+    Ok(told.book(alloc, book)?)
 }
 
 impl Pair {
+    fn send_and_look_twice<R: Wait>(
+        &mut self,
+        rt: &R,
+        alloc: Global,
+        told: &mut Told,
+    ) -> anyhow::Result<()> {
+        self.append(rt, alloc, told, 7)?;
+        self.fetch(rt, alloc, told)?;
+        self.fetch(rt, alloc, told)
+    }
+
+    fn look_and_send<R: Wait>(
+        &mut self,
+        rt: &R,
+        alloc: Global,
+        told: &mut Told,
+    ) -> anyhow::Result<()> {
+        self.fetch(rt, alloc, told)?;
+        self.append(rt, alloc, told, 8)
+    }
+
+    fn send_three_and_look<R: Wait>(
+        &mut self,
+        rt: &R,
+        alloc: Global,
+        told: &mut Told,
+    ) -> anyhow::Result<()> {
+        self.append(rt, alloc, told, 1)?;
+        self.append(rt, alloc, told, 2)?;
+        self.append(rt, alloc, told, 3)?;
+        self.fetch(rt, alloc, told)
+    }
+
     // Node 0 adds an entry that sends this byte to node 1.
     fn append<R: Wait>(
         &mut self,

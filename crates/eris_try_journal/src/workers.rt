@@ -1,183 +1,182 @@
-ghost use Rattle.std.specs.Prelude.{◌≡◌, ℕ, ◌+◌, ◌<◌, ◌≤◌, All, length, vec_len, IfOk, slice_index_or};
-ghost use Rattle.eris_journal.specs.Seats.{IsSeatOf, IsHandOf, AllJoined};
+ghost use Rattle.std.specs.Prelude.{◌≡◌, ℕ, ◌<◌, All, length, slice_index_or};
+ghost use Rattle.eris_journal.specs.Seats.{IsSeatOf};
 
 use crate::book::{NODES, SmallBook};
+use crate::crew::look_all;
 use crate::entries::entry_of;
-use eris_base::NoMemory;
-use eris_journal::{Hand, Journal, NodeSeat};
+use eris_journal::{Journal, NodeSeat};
 use std::alloc::Global;
 use std::sync::Wait;
 use std::sync::atomic::{AtomicBool, Ordering};
 use std::thread;
 use std::thread::Threads;
 
-/// A thread's node with its seat, the node that it sends to, and how many packets came.
-#[derive(Drop)]
-pub(crate) struct Worker {
-    seat: NodeSeat<SmallBook>,
-    to: u32,
-    came: u32,
-    ghost near: { to < 16 },
+/// What each node of a ring does: it adds so many entries, and waits until so many packets came.
+#[derive(Clone, Copy)]
+pub(crate) struct Work {
+    pub(crate) alloc: Global,
+    pub(crate) nodes: u32,
+    pub(crate) entries: u32,
+    pub(crate) packets: u32,
 }
 
-impl Worker {
-    // Adds one entry, which sends this byte, and looks for a packet. Whether nothing was refused.
-    fn turn<R: Wait>(
-        &mut self,
-        rt: &R,
-        alloc: Global,
-        journal: &Journal<SmallBook>,
-        byte: u8,
-    ) -> bool
-        requires { IsSeatOf journal.now self.old.seat }
-        ensures journal { IsSeatOf journal.now self.new.seat }
-        ensures node { self.new.seat.node ≡ self.old.seat.node }
-    {
-        let Worker { seat, to, came } = self;
-        let Ok(entry) = entry_of(alloc, &[(*to, byte)]) else {
-            return false;
-        };
-        if journal.append(rt, seat, entry).is_err() {
-            return false;
-        }
-        match journal.fetch(rt, seat) {
-            Ok(Some(_)) => {
-                *came = came.saturating_add(1);
-                true
-            }
-            Ok(None) => true,
-            Err(_) => false,
-        }
-    }
-
-    // Takes this many turns. Whether nothing was refused.
-    fn turns<R: Wait>(
-        &mut self,
-        rt: &R,
-        alloc: Global,
-        journal: &Journal<SmallBook>,
-        count: u32,
-    ) -> bool
-        requires { IsSeatOf journal.now self.old.seat }
-        ensures journal { IsSeatOf journal.now self.new.seat }
-        ensures node { self.new.seat.node ≡ self.old.seat.node }
-    {
-        for number in 0..count {
-            if !self.turn(rt, alloc, journal, (number % 256) as u8) {
-                return false;
-            }
-        }
-        true
-    }
-
-    // Looks for packets until this many came, or another thread stopped. Whether nothing was
-    // refused.
-    fn wait_for<R: Wait>(
-        &mut self,
-        rt: &R,
-        journal: &Journal<SmallBook>,
-        stop: &AtomicBool,
-        count: u32,
-    ) -> bool
-        requires { IsSeatOf journal.now self.old.seat }
-        ensures journal { IsSeatOf journal.now self.new.seat }
-        ensures node { self.new.seat.node ≡ self.old.seat.node }
-    {
-        for _ in rt.forever() {
-            if self.came >= count || stop.load(Ordering::SeqCst) {
-                return true;
-            }
-            match journal.fetch(rt, &mut self.seat) {
-                Ok(Some(_)) => self.came = self.came.saturating_add(1),
-                Ok(None) => thread::yield_now(),
-                Err(_) => return false,
-            }
-        }
-        unreachable!()
-    }
-
-    // Takes this many turns, and waits for as many packets.
-    fn work<R: Wait>(
-        &mut self,
-        rt: &R,
-        alloc: Global,
-        journal: &Journal<SmallBook>,
-        stop: &AtomicBool,
-        count: u32,
-    )
-        requires { IsSeatOf journal.now self.old.seat }
-        ensures journal { IsSeatOf journal.now self.new.seat }
-        ensures node { self.new.seat.node ≡ self.old.seat.node }
-    {
-        let done = self.turns(rt, alloc, journal, count) && self.wait_for(rt, journal, stop, count);
-        if !done {
-            stop.store(true, Ordering::SeqCst);
-        }
-    }
-}
-
-/// A worker for each node, which sends to the next one.
-pub(crate) fn seated(
-    alloc: Global,
-    journal: &Journal<SmallBook>,
-    hand: &mut Hand<SmallBook>,
-    nodes: u32,
-) -> Result<Vec<Worker>, NoMemory>
-    requires own { IsHandOf journal.now hand.old }
-    requires none { (hand.old.count ≡ 0) × (hand.old.nodes ≡ nodes) × (nodes ≤ 16) }
-    ensures hand { IsHandOf journal.now hand.new × (hand.new.nodes ≡ nodes) }
-    ensures workers { IfOk result (λ v. (vec_len v ≡ nodes) × (hand.new.count ≡ nodes) × ((i : ℕ) (d : _) → i < nodes → IsSeatOf journal.now (slice_index_or v.items i d).seat × ((slice_index_or v.items i d).seat.node ≡ i))) }
-{
-    let mut workers = Vec::new(alloc);
-    for node in 0..nodes {
-        let seat = journal.split(hand);
-        let to = if node + 1 < nodes { node + 1 } else { 0 };
-        workers.push(Worker { seat, to, came: 0 })?;
-    }
-    Ok(workers)
-}
-
-/// All workers work, each in a thread of its own.
+/// All nodes work, each in a thread of its own; then each looks once more.
 pub(crate) fn run_all<R: Threads + Wait + Sync>(
     rt: &R,
-    alloc: Global,
     journal: &Journal<SmallBook>,
-    count: u32,
-    workers: &mut [Worker],
+    work: Work,
+    seats: &mut [NodeSeat<SmallBook>],
 )
-    requires { All (λ w. IsSeatOf journal.now w.seat) workers.old }
-    ensures len { length workers.new ≡ length workers.old }
-    ensures journal { (i : ℕ) (d : _) → i < length workers.old → IsSeatOf journal.now (slice_index_or workers.new i d).seat }
-    ensures nodes { (i : ℕ) (d : _) → i < length workers.old → (slice_index_or workers.new i d).seat.node ≡ (slice_index_or workers.old i d).seat.node }
+    requires { All (λ seat. IsSeatOf journal.now seat) seats.old }
+    ensures len { length seats.new ≡ length seats.old }
+    ensures journal { (i : ℕ) (d : _) → i < length seats.old → IsSeatOf journal.now (slice_index_or seats.new i d) }
+    ensures nodes { (i : ℕ) (d : _) → i < length seats.old → (slice_index_or seats.new i d).node ≡ (slice_index_or seats.old i d).node }
+{
+    work_all(rt, journal, work, seats);
+    look_all(rt, journal, seats);
+}
+
+// All nodes work, each in a thread of its own.
+fn work_all<R: Threads + Wait + Sync>(
+    rt: &R,
+    journal: &Journal<SmallBook>,
+    work: Work,
+    seats: &mut [NodeSeat<SmallBook>],
+)
+    requires { All (λ seat. IsSeatOf journal.now seat) seats.old }
+    ensures len { length seats.new ≡ length seats.old }
+    ensures journal { (i : ℕ) (d : _) → i < length seats.old → IsSeatOf journal.now (slice_index_or seats.new i d) }
+    ensures nodes { (i : ℕ) (d : _) → i < length seats.old → (slice_index_or seats.new i d).node ≡ (slice_index_or seats.old i d).node }
 {
     let stop = AtomicBool::new(false);
     let stop = &stop;
     thread::for_each_mut(
         rt,
-        workers,
+        seats,
         NODES as usize,
-        &|_, worker| worker.work(rt, alloc, journal, stop, count),
+        &|node, seat| work_on(rt, journal, stop, work, node, seat),
     );
 }
 
-/// Joins all seats.
-pub(crate) fn joined(
-    journal: &Journal<SmallBook>,
-    hand: &mut Hand<SmallBook>,
-    mut workers: Vec<Worker>,
-)
-    requires own { IsHandOf journal.now hand.old }
-    requires count { vec_len workers ≡ hand.old.count }
-    requires workers { (i : ℕ) (d : _) → i < vec_len workers → IsSeatOf journal.now (slice_index_or workers.items i d).seat × ((slice_index_or workers.items i d).seat.node ≡ i) }
-    ensures hand { IsHandOf journal.now hand.new }
-    ensures joined { AllJoined hand.new }
+// The node that a ring's node sends to: the next one, and the first after the last.
+fn next_node(node: usize, nodes: u32) -> u32
+    ensures { result < 16 }
 {
-    while let Some(worker) = workers.pop() {
-        let Worker {
-            seat,
-            to: _,
-            came: _,
-        } = worker;
-        journal.join(hand, seat);
+    let next = node.saturating_add(1);
+    if next < nodes as usize && next < NODES as usize {
+        next as u32
+    } else {
+        0
     }
+}
+
+// The node of this number works, and all stop where it can't go on.
+fn work_on<R: Wait>(
+    rt: &R,
+    journal: &Journal<SmallBook>,
+    stop: &AtomicBool,
+    work: Work,
+    node: usize,
+    seat: &mut NodeSeat<SmallBook>,
+)
+    requires { IsSeatOf journal.now seat.old }
+    ensures journal { IsSeatOf journal.now seat.new }
+    ensures node { seat.new.node ≡ seat.old.node }
+{
+    let to = next_node(node, work.nodes);
+    if !is_done(rt, journal, stop, work, to, seat) {
+        stop.store(true, Ordering::SeqCst);
+    }
+}
+
+// Adds the entries, and waits for the packets. Whether nothing was refused.
+fn is_done<R: Wait>(
+    rt: &R,
+    journal: &Journal<SmallBook>,
+    stop: &AtomicBool,
+    work: Work,
+    to: u32,
+    seat: &mut NodeSeat<SmallBook>,
+) -> bool
+    requires own { IsSeatOf journal.now seat.old }
+    requires near { to < 16 }
+    ensures journal { IsSeatOf journal.now seat.new }
+    ensures node { seat.new.node ≡ seat.old.node }
+{
+    let Some(came) = turns(rt, journal, work, to, seat) else {
+        return false;
+    };
+    wait_for(rt, journal, stop, work.packets.saturating_sub(came), seat)
+}
+
+// Adds the entries, and looks for a packet after each. How many came, if nothing was refused.
+fn turns<R: Wait>(
+    rt: &R,
+    journal: &Journal<SmallBook>,
+    work: Work,
+    to: u32,
+    seat: &mut NodeSeat<SmallBook>,
+) -> Option<u32>
+    requires own { IsSeatOf journal.now seat.old }
+    requires near { to < 16 }
+    ensures journal { IsSeatOf journal.now seat.new }
+    ensures node { seat.new.node ≡ seat.old.node }
+{
+    let mut came = 0u32;
+    for number in 0..work.entries {
+        let byte = (number % 256) as u8;
+        came = came.saturating_add(turn(rt, work.alloc, journal, (to, byte), seat)?);
+    }
+    Some(came)
+}
+
+// Adds one entry of this pair, and looks for a packet. How many came, if nothing was refused.
+fn turn<R: Wait>(
+    rt: &R,
+    alloc: Global,
+    journal: &Journal<SmallBook>,
+    pair: (u32, u8),
+    seat: &mut NodeSeat<SmallBook>,
+) -> Option<u32>
+    requires own { IsSeatOf journal.now seat.old }
+    requires near { pair.0 < 16 }
+    ensures journal { IsSeatOf journal.now seat.new }
+    ensures node { seat.new.node ≡ seat.old.node }
+{
+    let Ok(entry) = entry_of(alloc, &[pair]) else {
+        return None;
+    };
+    if journal.append(rt, seat, entry).is_err() {
+        return None;
+    }
+    match journal.fetch(rt, seat) {
+        Ok(Some(_)) => Some(1),
+        Ok(None) => Some(0),
+        Err(_) => None,
+    }
+}
+
+// Looks for packets until so many came, or another thread stopped. Whether nothing was refused.
+fn wait_for<R: Wait>(
+    rt: &R,
+    journal: &Journal<SmallBook>,
+    stop: &AtomicBool,
+    mut missing: u32,
+    seat: &mut NodeSeat<SmallBook>,
+) -> bool
+    requires { IsSeatOf journal.now seat.old }
+    ensures journal { IsSeatOf journal.now seat.new }
+    ensures node { seat.new.node ≡ seat.old.node }
+{
+    for _ in rt.forever() {
+        if missing == 0 || stop.load(Ordering::SeqCst) {
+            return true;
+        }
+        match journal.fetch(rt, seat) {
+            Ok(Some(_)) => missing = missing.saturating_sub(1),
+            Ok(None) => thread::yield_now(),
+            Err(_) => return false,
+        }
+    }
+    unreachable!()
 }

@@ -1,4 +1,4 @@
-use Rattle.std.proofs.Common.{rules, ◌≡◌, None, sym, subst, length}
+use Rattle.std.proofs.Common.{rules, ◌≡◌, None, sym, subst}
 use Rattle.eris_journal.specs.Packets.{pending}
 use Rattle.eris_try_journal.specs.Bytes.{sends}
 use Rattle.eris_try_journal.proofs.Index.{index_passed}

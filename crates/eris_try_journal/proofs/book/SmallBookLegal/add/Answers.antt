@@ -1,4 +1,4 @@
-use Rattle.std.proofs.Common.{rules, arith, ◌≡◌, ◌≤◌, ◌<◌, ◌-◌, ◌+◌, ◌++◌, ◌∷◌, [], sym, ap, ◌∙◌, subst, length, length-append}
+use Rattle.std.proofs.Common.{rules, arith, ◌≡◌, ◌≤◌, ◌<◌, ◌-◌, ◌++◌, ◌∷◌, [], sym, ap, ◌∙◌, subst, length, length-append}
 use Rattle.eris_journal.specs.Packets.{sent}
 use Rattle.eris_try_journal.specs.Bytes.{sends}
 use Rattle.eris_try_journal.specs.SmallBooks.{IsIndex}

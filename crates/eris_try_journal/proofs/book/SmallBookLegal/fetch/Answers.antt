@@ -1,4 +1,4 @@
-use Rattle.std.proofs.Common.{rules, arith, ◌≡◌, ◌<◌, ◌+◌, ◌++◌, ◌∷◌, [], Some, sym, ap, ◌∙◌, refl, subst, set, slice_get, vec_len, length}
+use Rattle.std.proofs.Common.{rules, arith, ◌≡◌, ◌+◌, ◌++◌, ◌∷◌, [], Some, sym, ap, ◌∙◌, refl, subst, set, slice_get, vec_len, length}
 use Rattle.eris_journal.specs.Packets.{sent, pending}
 use Rattle.eris_journal.specs.declared.fetched.Fetched.{Fetched}
 use Rattle.eris_try_journal.specs.Bytes.{sends}

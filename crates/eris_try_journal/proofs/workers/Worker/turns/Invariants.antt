@@ -1,6 +1,0 @@
-use Rattle.std.proofs.Common.{◌≡◌}
-use Rattle.eris_journal.specs.Seats.{IsSeatOf}
-use Rattle.eris_try_journal.proofs.workers.Worker.turns.Given as goal
-
-abbrev pub invariant-loop-number : goal.invariant-loop-number
-invariant-loop-number g l = IsSeatOf l.journal l.self.seat × (l.self.seat.node ≡ l.initial.self.seat.node)
