@@ -7,23 +7,23 @@ use Rattle.eris_msg.specs.declared.outgoing.Outgoing.{Outgoing}
 use Rattle.eris_rules.specs.Refusals.{frame_size, frame_sizes}
 use Rattle.eris_network.specs.declared.send_fault.SendFault.{SendFault}
 use Rattle.eris_network.specs.declared.send_fault.SendFault.TheVariants as faults
-use Rattle.eris_network.specs.Limits.{IsTooLong, IsTooMuch}
+use Rattle.eris_network.specs.Limits.{IsTooLong, IsTooMuch, byte_limit}
 use Rattle.eris_network.proofs.KeptLaws.{frame_sizes-more, frame_sizes-append}
 
-pub too_much_one : (sent : List Outgoing) (one : Outgoing) (fault : SendFault) → IsTooLong one.message fault → IsTooMuch (sent ++ one ∷ []) fault
-too_much_one sent one faults.Packets h = h
-too_much_one sent one faults.Bytes h = omega (arith, h, frame_sizes-more sent one)
-too_much_one sent one faults.NoMemory h = tt
+pub too_much_one : (room : ℕ) (sent : List Outgoing) (one : Outgoing) (fault : SendFault) → room ≤ byte_limit → IsTooLong one.message fault → IsTooMuch room (sent ++ one ∷ []) fault
+too_much_one room sent one faults.Packets small h = h
+too_much_one room sent one faults.Bytes small h = omega (arith, small, h, frame_sizes-more sent one)
+too_much_one room sent one faults.NoMemory small h = tt
 
 front_smaller : (sends : List Outgoing) (i : ℕ) → frame_sizes (take i sends) ≤ frame_sizes sends
 unfolding frame_sizes
 front_smaller sends i = sum_by-take-le (λ one. frame_size one.message) sends i
 
-pub too_much_all : (old sends : List Outgoing) (i : ℕ) (fault : SendFault) → IsTooMuch (old ++ take i sends) fault → IsTooMuch (old ++ sends) fault
-too_much_all old sends i faults.Packets h = h
-too_much_all old sends i faults.Bytes h =
+pub too_much_all : (room : ℕ) (old sends : List Outgoing) (i : ℕ) (fault : SendFault) → IsTooMuch room (old ++ take i sends) fault → IsTooMuch room (old ++ sends) fault
+too_much_all room old sends i faults.Packets h = h
+too_much_all room old sends i faults.Bytes h =
     omega (arith, h, frame_sizes-append old (take i sends), frame_sizes-append old sends, front_smaller sends i)
-too_much_all old sends i faults.NoMemory h = tt
+too_much_all room old sends i faults.NoMemory h = tt
 
 pub more_at : (old sends self : List Outgoing) (i : ℕ) (one : Outgoing) → self ≡ old ++ take i sends → i < length sends → one ≡ get_or sends i one
     → self ++ one ∷ [] ≡ old ++ take (i + 1) sends

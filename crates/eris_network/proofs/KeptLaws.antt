@@ -124,9 +124,13 @@ frames_more kept bytes one h k few small =
       small = small;
     }
 
-pub frames_past : (kept : List Kept) (bytes : ℕ) (one : Kept) → AreFrames kept bytes → IsKept one → byte_limit - bytes < length one.frame
-    → byte_limit < frame_sizes (sent_of kept ++ outgoing_of one ∷ [])
-frames_past kept bytes one h k lt = omega (arith, lt, h.small, h.counted, frame_length one k, frame_sizes-more (sent_of kept) (outgoing_of one))
+pub frames_past : (room : ℕ) (kept : List Kept) (bytes : ℕ) (one : Kept) → AreFrames kept bytes → IsKept one → frame_sizes (sent_of kept) ≤ room → room - bytes < length one.frame
+    → room < frame_sizes (sent_of kept ++ outgoing_of one ∷ [])
+frames_past room kept bytes one h k small lt = omega (arith, lt, small, h.counted, frame_length one k, frame_sizes-more (sent_of kept) (outgoing_of one))
+
+pub frames_within : (room : ℕ) (kept : List Kept) (bytes : ℕ) (one : Kept) → AreFrames kept bytes → IsKept one → bytes + length one.frame ≤ room
+    → frame_sizes (sent_of (kept ++ one ∷ [])) ≤ room
+frames_within room kept bytes one h k few = omega (arith, few, h.counted, frame_length one k, frame_sizes-more (sent_of kept) (outgoing_of one), ap frame_sizes (sent_of-more kept one))
 
 -- ---- the bytes behind a frame's length
 pub four_at_least : (kept : Kept) → IsKept kept → 4 ≤ length kept.frame
@@ -136,6 +140,10 @@ pub behind_length : (kept : Kept) (bytes : List ℕ) → IsKept kept → bytes �
 unfolding outgoing_of
 behind_length kept bytes h e =
     record { fits = h.fits; spelled = e ∙ ap (drop 4) h.framed ∙ past_length (spelling (message_in kept.frame)) }
+
+pub nothing_sized : frame_sizes [] ≡ 0
+unfolding frame_sizes
+nothing_sized = refl
 
 pub no_frames : AreFrames [] 0
 unfolding frame_sizes

@@ -6,6 +6,7 @@ use Rattle.eris_event.specs.declared.refusal.Refusal.TheVariants as refusals
 use Rattle.eris_rules.specs.Refusals.{frame_size, frame_sizes, limit_met}
 use Rattle.eris_network.specs.declared.send_fault.SendFault.{SendFault}
 use Rattle.eris_network.specs.declared.send_fault.SendFault.TheVariants.{Packets, Bytes, NoMemory}
+use Rattle.eris_network.specs.declared.sent_counts.SentCounts.{SentCounts}
 
 -- how many packets may be sent
 abbrev pub packet_limit : ℕ
@@ -27,11 +28,15 @@ IsTooLong message Packets = ⊥
 IsTooLong message Bytes = byte_limit < frame_size message
 IsTooLong message NoMemory = ⊤
 
--- the frames of the messages have too many bytes, or memory is out
-abbrev pub IsTooMuch : List Outgoing → SendFault → Type 0
-IsTooMuch sent Packets = ⊥
-IsTooMuch sent Bytes = byte_limit < frame_sizes sent
-IsTooMuch sent NoMemory = ⊤
+-- the frames of the messages have more bytes than there is room for, or memory is out
+abbrev pub IsTooMuch : ℕ → List Outgoing → SendFault → Type 0
+IsTooMuch room sent Packets = ⊥
+IsTooMuch room sent Bytes = room < frame_sizes sent
+IsTooMuch room sent NoMemory = ⊤
+
+-- so many packets were sent, and their frames have so many bytes
+abbrev pub AreCountsOf : List Outgoing → SentCounts → Type 0
+AreCountsOf sent counts = (counts.packets ≡ length sent) × (counts.bytes ≡ frame_sizes sent)
 
 -- these sent messages meet the limit that a fault tells of, or memory is out
 abbrev pub IsMetBy : List Outgoing → SendFault → Type 0

@@ -1,15 +1,17 @@
-ghost use Rattle.std.specs.Prelude.{◌≡◌, ◌<◌, ◌≤◌, ◌+◌, ◌++◌, ◌∷◌, [], Some, length, slice_get, option_map, OnOk, IfOk, IfErr, true, drop};
+ghost use Rattle.std.specs.Prelude.{◌≡◌, ◌<◌, ◌≤◌, ◌+◌, ◌++◌, ◌∷◌, [], List, None, Some, length, slice_get, option_map, OnOk, IfOk, IfErr, true, drop};
 ghost use Rattle.eris_in_place.specs.MessageRanges.{MessageFits, SendsFit};
 ghost use Rattle.eris_msg.specs.Spellings.{IsSpelling, message_fits, spelling};
-ghost use Rattle.eris_rules.specs.Refusals.{frame_sizes};
+ghost use Rattle.eris_msg.specs.declared.outgoing.Outgoing.{Outgoing};
+ghost use Rattle.eris_rules.specs.Refusals.{frame_sizes, limit_met};
 ghost use Rattle.eris_frame.specs.Frames.{frame};
 ghost use Rattle.eris_network.specs.KeptFrames.{IsKept, outgoing_of, frame_in, addressee_in};
-ghost use Rattle.eris_network.specs.Limits.{IsTooLong, IsTooLongSpelled, IsTooMuch, byte_limit, packet_limit};
+ghost use Rattle.eris_network.specs.Limits.{AreCountsOf, IsMetBy, IsTooLong, IsTooLongSpelled, IsTooMuch, byte_limit, packet_limit};
 ghost use Rattle.eris_network.specs.Networks.{IsSpelledBy, frame_at};
 
 use crate::counted::is_counted;
 use crate::kept::Kept;
 use crate::send_fault::SendFault;
+use crate::sent_counts::SentCounts;
 use eris_base::{NoMemory, Node, Row};
 use eris_msg::{DecodeFault, FrameFault, Message, Outgoing, decode, encode, put_frame};
 use std::alloc::Global;
@@ -21,8 +23,7 @@ pub const PACKET_LIMIT: usize = 262_144;
 /// How many bytes the frames of the sent packets may have.
 pub const BYTE_LIMIT: usize = 67_108_864;
 
-/// The frames of all sent messages, in order of sending, with the number of their bytes. Contracts see the
-/// list of the sent messages.
+/// The frames of messages, in order, with the number of their bytes. Contracts see the list of the messages.
 #[derive(Debug, Drop)]
 pub struct Frames {
     alloc: Global,
@@ -43,7 +44,7 @@ impl Model for Frames {
 }
 
 impl Frames {
-    /// Nothing was sent. It takes no memory.
+    /// No message. It takes no memory.
     pub fn new(alloc: Global) -> Frames
         ensures { result ≡ [] }
     {
@@ -54,7 +55,7 @@ impl Frames {
         }
     }
 
-    /// How many messages were sent.
+    /// How many messages there are. It takes no memory.
     pub fn len(&self) -> usize
         ensures exact { result ≡ length self.now }
         ensures few { result ≤ packet_limit }
@@ -63,28 +64,82 @@ impl Frames {
         self.kept.len()
     }
 
+    /// How many bytes the frames have, at most 67,108,864. It takes no memory.
+    pub fn size(&self) -> usize
+        ensures exact { result ≡ frame_sizes self.now }
+        ensures small { result ≤ byte_limit }
+    {
+        self.bytes
+    }
+
+    /// Keeps the frames of more messages, where so much was sent before all of these.
+    ///
+    /// # Errors
+    ///
+    /// `Packets` exactly where all that is sent would be more than 262,144 packets, else `Bytes` exactly where
+    /// their frames would have more than 67,108,864 bytes.
+    pub(crate) fn add_sends(
+        &mut self,
+        before: SentCounts,
+        sends: &[Outgoing],
+    ) -> Result<(), SendFault>
+        requires fits { SendsFit sends.now }
+        requires packets { before.packets + length self.old ≤ packet_limit }
+        requires bytes { before.bytes + frame_sizes self.old ≤ byte_limit }
+        ensures ok { OnOk result (self.new ≡ self.old ++ sends.now) }
+        ensures room { (sent : List Outgoing) → AreCountsOf sent before → OnOk result (limit_met (sent ++ (self.old ++ sends.now)) ≡ None) }
+        ensures err { (sent : List Outgoing) → AreCountsOf sent before → IfErr result (IsMetBy (sent ++ (self.old ++ sends.now))) }
+    {
+        if sends.len() > PACKET_LIMIT - before.packets - self.len() {
+            return Err(SendFault::Packets);
+        }
+        self.add_all(BYTE_LIMIT - before.bytes, sends)
+    }
+
+    /// Keeps the frames of messages, for whose number there is room. All frames may have so many bytes.
+    fn add_all(&mut self, room: usize, sends: &[Outgoing]) -> Result<(), SendFault>
+        requires fits { SendsFit sends.now }
+        requires few { length self.old + length sends.now ≤ packet_limit }
+        requires room { (frame_sizes self.old ≤ room) × (room ≤ byte_limit) }
+        ensures ok { OnOk result (self.new ≡ self.old ++ sends.now) }
+        ensures within { OnOk result (frame_sizes self.new ≤ room) }
+        ensures err { IfErr result (IsTooMuch room (self.old ++ sends.now)) }
+    {
+        for one in sends {
+            match self.add(room, one) {
+                Ok(()) => {}
+                Err(fault) => return Err(fault),
+            }
+        }
+        Ok(())
+    }
+
     /// Keeps the frame of one more message, of which there may be room for one.
     #[tactic(auto, using(crate::proofs::AddLaws::too_much_one))]
-    fn add(&mut self, one: &Outgoing) -> Result<(), SendFault>
+    fn add(&mut self, room: usize, one: &Outgoing) -> Result<(), SendFault>
         requires fits { MessageFits one.now.message }
         requires few { length self.old < packet_limit }
+        requires room { (frame_sizes self.old ≤ room) × (room ≤ byte_limit) }
         ensures ok { OnOk result (self.new ≡ self.old ++ one.now ∷ []) }
-        ensures err { IfErr result (IsTooMuch (self.old ++ one.now ∷ [])) }
+        ensures within { OnOk result (frame_sizes self.new ≤ room) }
+        ensures err { IfErr result (IsTooMuch room (self.old ++ one.now ∷ [])) }
     {
         match kept_of(self.alloc, one) {
-            Ok(kept) => self.keep(kept),
+            Ok(kept) => self.keep(room, kept),
             Err(fault) => Err(fault),
         }
     }
 
-    fn keep(&mut self, kept: Kept) -> Result<(), SendFault>
+    fn keep(&mut self, room: usize, kept: Kept) -> Result<(), SendFault>
         requires kept { IsKept kept }
         requires few { length self.old < packet_limit }
+        requires room { (frame_sizes self.old ≤ room) × (room ≤ byte_limit) }
         ensures ok { OnOk result (self.new ≡ self.old ++ outgoing_of kept ∷ []) }
-        ensures err { IfErr result (IsTooMuch (self.old ++ outgoing_of kept ∷ [])) }
+        ensures within { OnOk result (frame_sizes self.new ≤ room) }
+        ensures err { IfErr result (IsTooMuch room (self.old ++ outgoing_of kept ∷ [])) }
     {
         let more = kept.frame.len();
-        if more > BYTE_LIMIT - self.bytes {
+        if more > room - self.bytes {
             return Err(SendFault::Bytes);
         }
         match self.kept.push(kept) {
@@ -96,23 +151,7 @@ impl Frames {
         }
     }
 
-    /// Keeps the frames of messages, for whose number there is room.
-    pub fn add_all(&mut self, sends: &[Outgoing]) -> Result<(), SendFault>
-        requires fits { SendsFit sends.now }
-        requires few { length self.old + length sends.now ≤ packet_limit }
-        ensures ok { OnOk result (self.new ≡ self.old ++ sends.now) }
-        ensures err { IfErr result (IsTooMuch (self.old ++ sends.now)) }
-    {
-        for one in sends {
-            match self.add(one) {
-                Ok(()) => {}
-                Err(fault) => return Err(fault),
-            }
-        }
-        Ok(())
-    }
-
-    /// The frame of the message of this number, if so many were sent.
+    /// The frame of the message of this number, if there are so many.
     #[tactic(auto, using(crate::proofs::KeptLaws::frame_at_kept))]
     pub fn frame(&self, number: usize) -> Option<&[u8]>
         ensures { option_map (λ bytes. bytes.now) result ≡ frame_at self.now number }
@@ -120,7 +159,7 @@ impl Frames {
         frame_in(self.kept.as_slice(), number)
     }
 
-    /// The bytes of the message of this number, if so many were sent.
+    /// The bytes of the message of this number, if there are so many.
     pub fn bytes(&self, number: usize) -> Option<&[u8]>
         ensures { IsSpelledBy (slice_get self.now number) (option_map (λ bytes. bytes.now) result) }
     {
@@ -147,6 +186,31 @@ impl Frames {
     {
         let kept = &self.kept.as_slice()[number];
         message_of(self.alloc, kept)
+    }
+}
+
+/// The frames of messages that a step sends, where so much was sent before; nothing is sent by it.
+///
+/// # Errors
+///
+/// `Packets` exactly where all that is sent would be more than 262,144 packets, else `Bytes` exactly where
+/// their frames would have more than 67,108,864 bytes.
+pub fn frame_sends(
+    alloc: Global,
+    before: SentCounts,
+    sends: &[Outgoing],
+) -> Result<Frames, SendFault>
+    requires fits { SendsFit sends.now }
+    requires packets { before.packets ≤ packet_limit }
+    requires bytes { before.bytes ≤ byte_limit }
+    ensures ok { IfOk result (λ frames. frames ≡ sends.now) }
+    ensures room { (sent : List Outgoing) → AreCountsOf sent before → OnOk result (limit_met (sent ++ sends.now) ≡ None) }
+    ensures err { (sent : List Outgoing) → AreCountsOf sent before → IfErr result (IsMetBy (sent ++ sends.now)) }
+{
+    let mut frames = Frames::new(alloc);
+    match frames.add_sends(before, sends) {
+        Ok(()) => Ok(frames),
+        Err(fault) => Err(fault),
     }
 }
 

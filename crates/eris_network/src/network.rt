@@ -6,8 +6,9 @@ ghost use Rattle.eris_rules.specs.Refusals.{limit_met};
 ghost use Rattle.eris_network.specs.Limits.{IsMetBy};
 ghost use Rattle.eris_network.specs.Networks.{IsSpelledBy, frame_at};
 
-use crate::frames::{Frames, PACKET_LIMIT};
+use crate::frames::Frames;
 use crate::send_fault::SendFault;
+use crate::sent_counts::SentCounts;
 use crate::waiting::Waiting;
 use eris_base::{NoMemory, Node, Row};
 use eris_msg::{Message, Outgoing};
@@ -119,15 +120,16 @@ impl Network {
         ensures room { OnOk result (limit_met (self.old.sent ++ sends.now) ≡ None) }
         ensures err { IfErr result (IsMetBy (self.old.sent ++ sends.now)) }
     {
-        if sends.len() > PACKET_LIMIT - self.frames.len() {
-            return Err(SendFault::Packets);
-        }
-        match self.frames.add_all(sends) {
+        let nothing = SentCounts {
+            packets: 0,
+            bytes: 0,
+        };
+        // Its contract tells that what was sent is within the limits.
+        let _sent = self.frames.len();
+        match self.frames.add_sends(nothing, sends) {
             Ok(()) => {}
             Err(fault) => return Err(fault),
         }
-        // Its contract tells that they are within the limits.
-        let _sent = self.frames.len();
         self.waiting.add_all(sends.len())?;
         Ok(())
     }
