@@ -1,0 +1,4 @@
+pub mod Freed
+pub mod Chosen
+pub mod Orderly
+pub mod Staying
