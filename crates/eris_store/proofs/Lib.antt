@@ -1,1 +1,3 @@
 mod AsIfAlone
+mod Entries
+mod Noted

@@ -1,4 +1,3 @@
-pub mod Leaves
 pub mod Ledgers
-pub mod PlainValues
+pub mod MapValues
 pub mod Stores

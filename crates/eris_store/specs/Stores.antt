@@ -5,17 +5,17 @@ use Rattle.eris_locks.specs.declared.done.Done.{Done}
 use Rattle.eris_locks.specs.LockTable.{Stepped, nothing_done, step}
 use Rattle.eris_locks.specs.Shards.{cut, names_shard}
 use Rattle.eris_locks.specs.States.{StoreState}
-use Rattle.eris_store.specs.PlainValues.{PlainValue, plain_state}
+use Rattle.eris_store.specs.MapValues.{MapValue, map_state}
 
 -- a lock store: of which shard it is, what it keeps, and whether memory has run out
 pub record StoreValue : Type 0 where
   pub shard : ShardId
-  pub kept : PlainValue
+  pub kept : MapValue
   pub spent : Bool
 
 -- the state of the lock table that a store stands for
 abbrev pub state_of : StoreValue → StoreState
-state_of store = plain_state store.kept
+state_of store = map_state store.kept
 
 -- the state that is left, with the answers
 abbrev pub stepped : StoreValue → List Done → Stepped

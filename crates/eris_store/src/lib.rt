@@ -5,14 +5,11 @@
 //! All calls but `is_spent` ask that the store isn't spent, and nothing else.
 #![tactic(auto)]
 
-mod cells;
-mod cutting;
 mod ledger;
 mod lock_store;
-mod locking;
-mod packets;
-mod plain_store;
+mod maps;
 mod run;
+mod table;
 
 pub use eris_locks::Done;
 pub use lock_store::LockStore;

@@ -1,4 +1,4 @@
-ghost use Rattle.std.specs.Prelude.{◌≡◌, None, List, [], ◌++◌, false, is_err, IfOk, OnOk};
+ghost use Rattle.std.specs.Prelude.{◌≡◌, None, List, [], ◌++◌, true, false, is_err, IfOk, OnOk};
 ghost use Rattle.eris_base.specs.declared.ids.Phase.TheVariants.{Conclude};
 ghost use Rattle.eris_base.specs.Each.{Each};
 ghost use Rattle.eris_locks.specs.declared.shard_packet.ShardPacket.{ShardPacket};
@@ -8,20 +8,22 @@ ghost use Rattle.eris_locks.specs.Shards.{cut, on_shard};
 ghost use Rattle.eris_locks.specs.States.{empty};
 ghost use Rattle.eris_locks.specs.WellFormed.{WellFormed};
 
-use crate::plain_store::PlainStore;
-use crate::run::{run_plain, step_plain};
+use crate::run::{run_named, step_cut};
+use crate::table::Table;
 use eris_base::{NoMemory, Phase, Row, ShardId, TxnId};
 use eris_locks::Done;
+use eris_plain_store::Locks;
 use eris_txn::{Answer, Key, Packet};
 use std::alloc::Global;
 use std::marker::Model;
 
-/// The store of one shard. Contracts see, by `state_of`, the state of the lock table that it stands for.
+/// The store of one shard. Contracts see, by `state_of`, the state of the lock table that it stands for. Its
+/// [`Locks::step`] and [`Locks::value_of`] are [`LockStore::step`] and [`LockStore::value_of`].
 #[derive(Drop)]
 pub struct LockStore {
     alloc: Global,
     shard: ShardId,
-    store: PlainStore,
+    table: Table,
     spent: bool,
 }
 
@@ -30,7 +32,7 @@ impl Model for LockStore {
 
     ghost Value = { StoreValue };
 
-    ghost view = { λ store. record { shard = store.shard; kept = store.store; spent = store.spent } };
+    ghost view = { λ store. record { shard = store.shard; kept = store.table; spent = store.spent } };
 }
 
 impl LockStore {
@@ -45,7 +47,7 @@ impl LockStore {
         LockStore {
             alloc,
             shard,
-            store: PlainStore::new(alloc),
+            table: Table::new(alloc),
             spent: false,
         }
     }
@@ -63,7 +65,7 @@ impl LockStore {
         ensures shard { self.new.shard ≡ self.old.shard }
         ensures spent { self.new.spent ≡ is_err result }
     {
-        let done = step_plain(self.alloc, self.shard, &mut self.store, packet);
+        let done = step_cut(self.alloc, self.shard, &mut self.table, packet);
         self.spent = done.is_err();
         done
     }
@@ -95,7 +97,7 @@ impl LockStore {
             → let came = before ++ on_shard self.old.shard packets.now in
             ((state_of self.new).waiting ≡ []) × (WellFormed came → (state_of self.new).values ≡ plain_end came)) }
     {
-        let dones = run_plain(self.alloc, self.shard, &mut self.store, packets);
+        let dones = run_named(self.alloc, self.shard, &mut self.table, packets);
         self.spent = dones.is_err();
         dones
     }
@@ -112,7 +114,7 @@ impl LockStore {
         ensures outcomes { IfOk result (λ found. (packets : List ShardPacket) → state_of self.now ≡ run_state empty packets
             → phase ≡ Conclude → found ≡ None) }
     {
-        self.store.recorded(id, phase)
+        self.table.recorded(id, phase)
     }
 
     /// An equal store. It needs one that isn't spent.
@@ -127,7 +129,7 @@ impl LockStore {
         Ok(LockStore {
             alloc: self.alloc,
             shard: self.shard,
-            store: self.store.copy()?,
+            table: self.table.copy()?,
             spent: self.spent,
         })
     }
@@ -138,7 +140,7 @@ impl LockStore {
         requires { self.now.spent ≡ false }
         ensures { result ≡ (state_of self.now).values key.now }
     {
-        self.store.value_of(key)
+        self.table.value_of(key)
     }
 
     /// Whether a call was refused memory that changes the store. Its other calls then may not be made any
@@ -147,5 +149,23 @@ impl LockStore {
         ensures { result ≡ self.now.spent }
     {
         self.spent
+    }
+}
+
+impl Locks for LockStore {
+    ghost use Rattle.eris_store.specs.Stores.{state_of};
+
+    ghost state = { state_of };
+
+    ghost shard = { λ store. store.shard };
+
+    ghost spent = { λ store. store.spent };
+
+    fn step(&mut self, packet: &Packet) -> Result<Row<Done>, NoMemory> {
+        self.step(packet)
+    }
+
+    fn value_of(&self, key: &Key) -> Option<u64> {
+        self.value_of(key)
     }
 }

@@ -1,0 +1,9 @@
+use Rattle.std.proofs.Common.{◌≡◌, []}
+use Rattle.eris_locks.specs.LockTable.{all_also, release}
+use Rattle.eris_plain_store.specs.PlainValues.{plain_state}
+use Rattle.eris_plain_store.proofs.lists.Lists.release.Given as goal
+
+abbrev pub invariant-loop-packet : goal.invariant-loop-packet
+invariant-loop-packet l =
+    all_also l.dones (release l.at (plain_state l.self) l.before l.packet-iterator.rest.items)
+    ≡ all_also l.fn.dones (release l.at (plain_state l.fn.self) [] l.fn.waiting)

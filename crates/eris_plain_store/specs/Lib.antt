@@ -1,0 +1,4 @@
+pub mod Leaves
+pub mod Ledgers
+pub mod PlainValues
+pub mod Stores
