@@ -1,0 +1,2 @@
+pub mod InputRuns
+pub mod Images
