@@ -1,0 +1,4 @@
+pub mod Disks
+pub mod DiskLaws
+pub mod DiskValues
+pub mod Histories
