@@ -1,0 +1,5 @@
+pub mod Words
+pub mod Keys
+pub mod Counts
+pub mod Submits
+pub mod Examples

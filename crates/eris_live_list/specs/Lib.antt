@@ -1,0 +1,2 @@
+pub mod LiveJournals
+pub mod LiveLists
