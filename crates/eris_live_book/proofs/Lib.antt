@@ -1,0 +1,5 @@
+pub mod PlaceLaws
+pub mod FetchedLaws
+pub mod KeptLaws
+pub mod NextLaws
+pub mod LegalLaws

@@ -1,0 +1,2 @@
+pub mod LiveBookValues
+pub mod Places
