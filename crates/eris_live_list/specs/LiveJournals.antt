@@ -1,4 +1,5 @@
--- THE JOURNAL OF A LIVE RUN: which lists of events are one, how its marks cut it into rounds, and what is counted in it.
+-- THE JOURNAL OF A LIVE RUN: which lists of events are one, how its marks cut it into rounds, and
+-- what is counted in it.
 use Rattle.std.specs.Prelude.{◌≡◌, ◌≤◌, ◌<◌, ℕ, zero, suc, ◌+◌, ◌*◌, ◌==◌, Bool, true, false, Option, Some, List, [], ◌∷◌, ◌++◌, length, take, drop, slice_get, unwrap_or, if◌then◌else◌}
 use Rattle.std.specs.List.{filter}
 use Rattle.eris_base.specs.declared.ids.ClientId.{ClientId}
@@ -61,7 +62,8 @@ before_round marks round journal = take (begin_of marks round) journal
 abbrev pub round_of : List ℕ → ℕ → List Event → List Event
 round_of marks round journal = drop (begin_of marks round) (before_round marks (suc round) journal)
 
--- THE MARKS of so many rounds: one for each, none less than the one before, and the last is the number of events
+-- THE MARKS of so many rounds: one for each, none less than the one before, and the last is the
+-- number of events
 pub record AreMarks (rounds events : ℕ) (marks : List ℕ) : Type 0 where
   pub each_round : length marks ≡ rounds
   pub rise : (round : ℕ) → round < rounds → begin_of marks round ≤ begin_of marks (suc round)
@@ -79,8 +81,8 @@ HasFirstDelivery sent before events node =
     × (events ≡ some ++ Event.Deliver number epoch ∷ more)
     × IsOpenTo sent (before ++ some) node number
 
--- A ROUND SERVES a node: if a packet to the node is open before the round, then one is delivered in it for the first
--- time. Sent is what the events of the journal sent.
+-- A ROUND SERVES a node: if a packet to the node is open before the round, then one is delivered in
+-- it for the first time. Sent is what the events of the journal sent.
 abbrev pub Serves : List Outgoing → List Outgoing → List Event → List Event → Node → Type 0
 Serves sent_before sent before events node =
     (number : ℕ) → IsOpenTo sent_before before node number → HasFirstDelivery sent before events node

@@ -1,5 +1,5 @@
--- THE LIVE LIST: what each client of a live run submits, in order. Each submission takes one draw below 2 from the
--- client's own generator.
+-- THE LIVE LIST: what each client of a live run submits, in order. Each submission takes one draw
+-- below 2 from the client's own generator.
 use Rattle.std.specs.Prelude.{ℕ, zero, suc, ◌%◌, ◌==◌, List, [], ◌∷◌, if◌then◌else◌}
 use Rattle.rand_pcg.specs.Lcg.{Lcg, advance, increment_of, started}
 use Rattle.rand_pcg.specs.Pcg.{multiplier_64, pcg32}
