@@ -10,6 +10,9 @@ usage: measure.py [PROGRAM]     the program is crates/eris/out/eris where none i
   delivered before, so the time per delivery should stay the same.
 - `busy`: submissions over 4 shards of 3 replicas, each followed by its deliveries. The time of each next
   thousand is compared with that of the first.
+- `report`: submissions over one shard of one replica, each with its deliveries, up to the most that a run may have.
+  The report should take at most as long as the run before it, which is the time of the same script with one more
+  line that is refused, so that no report is made. It ends where a run takes more than a minute.
 - `check`: a serial report of so many submissions, answers and order lines is judged. Twice as many should take
   about twice the time; the memory is compared with the bytes of the report.
 - `migrate`: a script of `retry` lines as long as a script may be, and one of half its length.
@@ -23,6 +26,10 @@ import tempfile
 
 HERE = os.path.dirname(os.path.abspath(__file__))
 PROGRAM = os.path.join(HERE, "..", "crates", "eris", "out", "eris")
+
+# the most packets that a run may send, and the status of a script with a line that is refused
+MOST_SENT = 262144
+BAD_SCRIPT = 3
 
 # the bytes of the frame of an Ask that reads one key with a name of one byte
 ASK_FRAME = 26
@@ -40,8 +47,9 @@ def high_water(pid):
     return 0
 
 
-def run(program, script, word="run"):
-    """The seconds of processor time that the word takes on the text, and the most KiB of memory that were seen."""
+def run(program, script, word="run", due=0):
+    """The seconds of processor time that the word takes on the text, and the most KiB of memory that were seen. It
+    must end with the status that is due."""
     with tempfile.TemporaryFile() as source:
         source.write(script)
         source.seek(0)
@@ -53,7 +61,7 @@ def run(program, script, word="run"):
             if ended:
                 break
     child.returncode = os.waitstatus_to_exitcode(status)
-    if child.returncode != 0:
+    if child.returncode != due:
         sys.exit(f"{word} ended with status {child.returncode}")
     return usage.ru_utime + usage.ru_stime, most
 
@@ -97,6 +105,20 @@ def busy(program):
         before = seconds
 
 
+def reported(program):
+    head = b"eris 1 1 0 1\n"
+    for count in (1024, 2048, 4096, 8192, MOST_SENT // 3):
+        # an ask, its stamped packet and a reply, three packets for each
+        script = head + b"submit 0 get 0/a\nflow 3\n" * count
+        before, _ = run(program, script + b"deliver %d\n" % MOST_SENT, due=BAD_SCRIPT)
+        seconds, _ = run(program, script)
+        report = seconds - before
+        print(f"report     {count:7} submissions {before:8.2f} s, and {report:8.2f} s for the report,"
+              f" {report / before:5.2f} of the run")
+        if before > 60:
+            break
+
+
 def judged(program):
     tail = b"replica 0 0 normal epoch 0 view 0 held 0 length 0 settled 0\n"
     tail += b"coordinator epoch 0 target 0 found 0 dropped 0\nsent 0\nend\n"
@@ -130,6 +152,7 @@ def main():
     retries(program)
     deliveries(program)
     busy(program)
+    reported(program)
     judged(program)
     migrated(program)
 

@@ -1,4 +1,5 @@
 pub mod AccountKeys
 pub mod Words
 pub mod Submits
+pub mod Kept
 pub mod Turns

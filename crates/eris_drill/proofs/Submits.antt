@@ -25,16 +25,6 @@ submit_step (history.Read other values) more id = refl
 submit_step (history.Answer other answer) more id = refl
 submit_step (history.Told asker other answer) more id = refl
 
-by_kind : (id other : TxnId) (txn : Txn) (test : Bool) → test ≡ same_id other id → cond test (Some txn) None ≡ first_submit (history.Submit other txn ∷ []) id
-by_kind id other txn test same = ap (λ (known : Bool). cond known (Some txn) None) same
-
--- what one event submits under an id, by the test of the ids
-pub submitted_by : (event : HistoryEvent) (id other : TxnId) (txn : Txn) (test : Bool) → event ≡ history.Submit other txn → test ≡ same_id other id →
-    cond test (Some txn) None ≡ first_submit (event ∷ []) id
-submitted_by event id other txn test is same = by_kind id other txn test same ∙ ap (λ (one : HistoryEvent). first_submit (one ∷ []) id) (sym is)
-
-pub ruleset submits = (submit_step)
-
 -- the run of an order, one line on
 one_on : (history : List HistoryEvent) (order : List OrderLine) (at : ℕ) (line : OrderLine) (values left : Values) → at < length order →
     line ≡ slice_index_or order at line → left ≡ left_by_step (txn_of history line.id) line.outcome values →

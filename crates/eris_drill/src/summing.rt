@@ -1,52 +1,72 @@
 ghost use Rattle.std.specs.Prelude.{◌≡◌, ◌∷◌, [], IfOk, OnOk, false, is_err};
-ghost use Rattle.std.specs.Option.{option_map};
+ghost use Rattle.std.specs.Option.{option_or};
+ghost use Rattle.eris_base.specs.declared.ids.TxnId.{TxnId};
 ghost use Rattle.eris_txn.specs.KeyValues.{values_of};
-ghost use Rattle.eris_audit.specs.Histories.{first_submit, txn_of};
+ghost use Rattle.eris_audit.specs.Histories.{first_submit};
 ghost use Rattle.eris_audit.specs.SerialRun.{left_by_step};
+ghost use Rattle.eris_drill.specs.Submitted.{kept_of, kept_or_nothing, with_first};
 ghost use Rattle.eris_drill.specs.Summaries.{IsTotal, values_left};
 
 use eris_audit::{OrderLine, SerialStore};
-use eris_base::{NoMemory, TxnId};
+use eris_base::{Dup, NoMemory, TxnId};
 use eris_event::Report;
 use eris_txn::{HistoryEvent, Txn};
 use std::alloc::Global;
+use std::collections::BTreeMap;
 
-// The transaction that the event submits under this id.
-fn submit_of<'a>(event: &'a HistoryEvent, id: TxnId) -> Option<&'a Txn>
-    ensures { option_map (λ txn. txn.now) result ≡ first_submit (event.now ∷ []) id }
+// Keeps the transaction of an id, unless one is kept already.
+fn keep(
+    alloc: Global,
+    kept: &mut BTreeMap<TxnId, Txn>,
+    id: TxnId,
+    txn: &Txn,
+) -> Result<(), NoMemory>
+    ensures { OnOk result ((other : TxnId) → kept_of kept.new.entries other ≡ with_first (kept_of kept.old.entries) id txn.now other) }
+{
+    if !kept.contains_key(&id) {
+        kept.insert(id, txn.copy(alloc)?)?;
+    }
+    Ok(())
+}
+
+// Keeps what the event submits.
+fn keep_submit(
+    alloc: Global,
+    kept: &mut BTreeMap<TxnId, Txn>,
+    event: &HistoryEvent,
+) -> Result<(), NoMemory>
+    ensures { OnOk result ((id : TxnId) → kept_of kept.new.entries id ≡ option_or (kept_of kept.old.entries id) (first_submit (event.now ∷ []) id)) }
 {
     match event {
-        HistoryEvent::Submit(other, txn) => if *other == id { Some(txn) } else { None },
-        HistoryEvent::Read(_, _) => None,
-        HistoryEvent::Answer(_, _) => None,
-        HistoryEvent::Told(_, _, _) => None,
+        HistoryEvent::Submit(id, txn) => keep(alloc, kept, *id, txn),
+        HistoryEvent::Read(_, _) => Ok(()),
+        HistoryEvent::Answer(_, _) => Ok(()),
+        HistoryEvent::Told(_, _, _) => Ok(()),
     }
 }
 
-// The transaction of an id's first submit.
-#[tactic(auto, using(crate::proofs::Submits::submits))]
-fn first_submit<'a>(history: &'a [HistoryEvent], id: TxnId) -> Option<&'a Txn>
-    ensures { option_map (λ txn. txn.now) result ≡ first_submit history.now id }
+// The transactions of a history, each the one of its id's first submit.
+fn submitted(alloc: Global, history: &[HistoryEvent]) -> Result<BTreeMap<TxnId, Txn>, NoMemory>
+    ensures { IfOk result (λ kept. (id : TxnId) → kept_of kept.entries id ≡ first_submit history.now id) }
 {
+    let mut kept = BTreeMap::new(alloc);
     for event in history {
-        if let Some(txn) = submit_of(event, id) {
-            return Some(txn);
-        }
+        keep_submit(alloc, &mut kept, event)?;
     }
-    None
+    Ok(kept)
 }
 
 // Runs the transaction of a line; one that was never submitted does nothing.
 fn run_line(
     store: &mut SerialStore,
-    history: &[HistoryEvent],
+    kept: &BTreeMap<TxnId, Txn>,
     line: &OrderLine,
 ) -> Result<(), NoMemory>
     requires unspent { store.old.spent ≡ false }
-    ensures left { OnOk result (values_of store.new.entries ≡ left_by_step (txn_of history.now line.now.id) line.now.outcome (values_of store.old.entries)) }
+    ensures left { OnOk result (values_of store.new.entries ≡ left_by_step (kept_or_nothing kept.now.entries line.now.id) line.now.outcome (values_of store.old.entries)) }
     ensures spent { store.new.spent ≡ is_err result }
 {
-    match first_submit(history, line.id) {
+    match kept.get(&line.id) {
         Some(txn) => {
             store.run(txn, line.outcome)?;
             Ok(())
@@ -61,9 +81,10 @@ fn run_line(
 pub fn total(alloc: Global, report: &Report) -> Result<u64, NoMemory>
     ensures { IfOk result (λ total. IsTotal (values_left report.now) total) }
 {
+    let kept = submitted(alloc, report.history.as_slice())?;
     let mut store = SerialStore::new(alloc);
     for line in report.order.as_slice() {
-        run_line(&mut store, report.history.as_slice(), line)?;
+        run_line(&mut store, &kept, line)?;
     }
     Ok(store.total())
 }

@@ -2,6 +2,8 @@
 //! packet stands in a list, or is held by a part, by which the order's packets are chosen.
 #![tactic(auto)]
 
+mod firsts;
+mod ids;
 mod lines;
 mod outcomes;
 mod survivors;

@@ -1,4 +1,9 @@
-use Rattle.std.proofs.Common.{◌∙◌, arith}
+use Rattle.std.proofs.Common.{◌∙◌, Option, [], ap, arith}
+use Rattle.std.specs.Option.{unwrap_or}
+use Rattle.eris_txn.specs.declared.txn.Txn.{Txn}
+use Rattle.eris_txn.specs.declared.txn.Txn.TheVariants.{Whole}
+use Rattle.eris_txn.specs.KeyValues.{values_of}
+use Rattle.eris_audit.specs.SerialRun.{left_by_step}
 use Rattle.eris_drill.proofs.Submits.{steps_end, steps_on}
 use Rattle.eris_drill.proofs.summing.total.Goals as goal
 
@@ -6,7 +11,9 @@ pub loop-line-preserved : goal.loop-line-preserved
 loop-line-preserved c = (
   c.in_ok-run_line.ensures.spent,
   steps_on c.as_slice.result.now c.args.report.now.history c.as_slice-line-items.result.now c.args.report.now.order c.loop-line.line-index c.line-item.result _ _
-      c.as_slice.ensures c.as_slice-line-items.ensures c.loop-line-test.true c.line-item.is c.in_ok-run_line.ensures.left
+      c.as_slice.ensures c.as_slice-line-items.ensures c.loop-line-test.true c.line-item.is
+      (c.in_ok-run_line.ensures.left
+      ∙ ap (λ (found : Option Txn). left_by_step (unwrap_or found (Whole [])) c.line-item.result.outcome (values_of c.loop-line.store.entries)) (c.in_ok-kept.ensures c.line-item.result.id))
       ∙ (c.loop-line.invariant).1,
 )
 

@@ -1,0 +1,3 @@
+mod AmongIds
+mod LineLaws
+mod NotedLaws
