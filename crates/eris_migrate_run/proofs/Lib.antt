@@ -1,2 +1,3 @@
+pub mod ByGrammar
 pub mod Migrating
 pub mod OutcomesAlike

@@ -15,6 +15,7 @@ use Rattle.eris_status.specs.Statuses.{HasText, IfBadScript, IfTooLarge, IsRefus
 use Rattle.eris_status.specs.Texts.{too_large_text}
 use Rattle.eris_words.specs.declared.reason.Reason.{Reason}
 use Rattle.eris_migrate_run.specs.Migrates.{IsMigrateDue, IsPastScripts, MigratesScript, RefusesScript, migrate_status, migrate_text, status_unless, text_unless}
+use Rattle.eris_migrate_run.proofs.ByGrammar.{GrammarRefuses, refused_by_grammar}
 use Rattle.eris_migrate_run.proofs.OutcomesAlike.{outcomes_alike}
 
 -- the law of what migrating keeps
@@ -84,11 +85,11 @@ module _ (bytes : List ℕ) where
       (subst HasText (sym status) tt)
 
   -- ---- BAD SCRIPT
-  pub script_refused : (due : Due) (line : ℕ) (reason : Reason) → length bytes ≤ input_limit → unread bytes ≡ Some (record { line = line; reason = reason })
+  pub script_refused : GrammarRefuses → (due : Due) (line : ℕ) (reason : Reason) → length bytes ≤ input_limit → unread bytes ≡ Some (record { line = line; reason = reason })
       → IsRefusal (record { line = line; why = why.Reason reason }) due → IsMigrateDue bytes due
-  script_refused due line reason within found refusal =
+  script_refused law due line reason within found refusal =
       let all : Says bytes due.text (BadScript line reason) =
-      record { done = λ same. absurd cc; bad_script = record { within = within; first = found; is = refusal.text }; too_large = tt } in
+      record { done = λ same. absurd cc; bad_script = record { within = within; first = found; by_grammar = refused_by_grammar law bytes line reason found; is = refusal.text }; too_large = tt } in
       is_due due
       (refusal.status ∙ sym (status_within within ∙ ap status_unless found))
       (refusal.text ∙ sym (text_within within ∙ ap (text_unless bytes) found))
@@ -96,10 +97,10 @@ module _ (bytes : List ℕ) where
       refusal.has_text
 
   -- ---- and for what a call answers
-  pub scripts_refused : {E : Type 0} (result : Result Due E) (line : ℕ) (reason : Reason) → length bytes ≤ input_limit → unread bytes ≡ Some (record { line = line; reason = reason })
+  pub scripts_refused : GrammarRefuses → {E : Type 0} (result : Result Due E) (line : ℕ) (reason : Reason) → length bytes ≤ input_limit → unread bytes ≡ Some (record { line = line; reason = reason })
       → IfOk result (IsRefusal (record { line = line; why = why.Reason reason })) → IfOk result (IsMigrateDue bytes)
-  scripts_refused (Ok due) line reason within found refusal = script_refused due line reason within found refusal
-  scripts_refused (Err error) line reason within found refusal = tt
+  scripts_refused law (Ok due) line reason within found refusal = script_refused law due line reason within found refusal
+  scripts_refused law (Err error) line reason within found refusal = tt
 
 -- ---- TOO LARGE
 pub script_past : (bytes : List ℕ) (due : Due) → input_limit < length bytes → due.status ≡ TooLarge 0 → due.text ≡ too_large_text → IsMigrateDue bytes due

@@ -3,6 +3,7 @@
 use Rattle.std.specs.Prelude.{◌≡◌, ◌⊎◌, ℕ, ◌≤◌, ◌<◌, nat_lt, Option, Some, None, List, length, if◌then◌else◌}
 use Rattle.eris_grammar.specs.Scripts.{BadLine}
 use Rattle.eris_law_migrate.specs.Meanings.{MeansTheSame}
+use Rattle.eris_law_reasons.specs.Reasons.{IsOfGrammar}
 use Rattle.eris_migrate.specs.Migrated.{migrated}
 use Rattle.eris_migrate.specs.Unread.{IsVersion1, unread}
 use Rattle.eris_run.specs.Calls.{input_limit, status_due, text_due}
@@ -26,10 +27,12 @@ pub record MigratesScript (bytes text : List ℕ) : Type 0 where
   pub status : status_due text ≡ status_due bytes
   pub text_of : text_due text ≡ text_due bytes
 
--- BAD SCRIPT: this is the first line that isn't read as one of a script of version 1, and why
+-- BAD SCRIPT: this is the first line that isn't read as one of a script of version 1, and why: for one of the grammar's own reasons, never
+-- for what a system's state says of an event
 pub record RefusesScript (bytes text : List ℕ) (line : ℕ) (reason : Reason) : Type 0 where
   pub within : length bytes ≤ input_limit
   pub first : unread bytes ≡ Some (record { line = line; reason = reason })
+  pub by_grammar : IsOfGrammar reason
   pub is : text ≡ bad_script_text line reason
 
 -- TOO LARGE: with line 0 alone, and where the bytes are more than a script may have

@@ -4,6 +4,7 @@ ghost use Rattle.eris_run.specs.Calls.{input_limit};
 
 use eris_base::NoMemory;
 use eris_law_migrate::migrated_scripts_mean_the_same;
+use eris_law_reasons::lines_are_refused_by_the_grammar;
 use eris_migrate::{MigrateFault, migrate};
 use eris_run::INPUT_LIMIT;
 use eris_status::{Due, Refused, Status, Why, refuse_input, refuse_line};
@@ -34,6 +35,7 @@ fn migrate_script(alloc: Global, bytes: &[u8]) -> Result<Due, NoMemory>
     ensures { IfOk result (IsMigrateDue bytes.now) }
 {
     migrated_scripts_mean_the_same();
+    lines_are_refused_by_the_grammar();
     match migrate(alloc, bytes) {
         Ok(text) => Ok(Due {
             status: Status::Done,

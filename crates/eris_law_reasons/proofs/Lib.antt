@@ -1,0 +1,2 @@
+pub mod FormReasons
+pub mod GrammarReasons
