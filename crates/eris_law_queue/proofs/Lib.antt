@@ -1,3 +1,4 @@
+pub mod Spared
 pub mod Freed
 pub mod Chosen
 pub mod Orderly

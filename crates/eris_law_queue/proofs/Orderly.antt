@@ -49,7 +49,7 @@ once_without (waiter ∷ before) packet packets h =
       (same_id-turned packet.id waiter.id ∙ right.0, rest.1),
     )
 
-each_without : (P : ShardPacket → Type 0) (before : List ShardPacket) (packet : ShardPacket) (packets : List ShardPacket)
+pub each_without : (P : ShardPacket → Type 0) (before : List ShardPacket) (packet : ShardPacket) (packets : List ShardPacket)
     → Each P (before ++ packet ∷ packets) → Each P (before ++ packets)
 each_without P before packet packets h =
     Each-append P before packets (Each-left P before (packet ∷ packets) h) (Each-right P before (packet ∷ packets) h).1

@@ -4,4 +4,4 @@
 
 mod law;
 
-pub use law::{records_stay, releases_need_no_more, states_are_orderly};
+pub use law::{records_stay, releases_need_no_more, states_are_orderly, values_are_of_the_shard};

@@ -1,4 +1,5 @@
 pub mod Leaves
 pub mod Ledgers
+pub mod Listings
 pub mod PlainValues
 pub mod Stores

@@ -3,6 +3,7 @@ ghost use Rattle.eris_txn.specs.Keys.{with_value};
 ghost use Rattle.eris_txn.specs.KeyValues.{values_of};
 ghost use Rattle.eris_txn.specs.Operations.{after, after_all, answered, answers, key_of};
 ghost use Rattle.eris_txn.specs.Plans.{written};
+ghost use Rattle.eris_plain_store.specs.Listings.{IsListing};
 
 use eris_base::{NoMemory, Row};
 use eris_txn::{Key, Lock, Op, OpAnswer, Write, apply_op};
@@ -130,5 +131,23 @@ impl Cells {
             read.push(self.value_of(&lock.key))?;
         }
         Ok(read)
+    }
+
+    /// The keys that have a value, with it: each key once, in the order of keys.
+    ///
+    /// # Errors
+    ///
+    /// [`NoMemory`] where an allocation was refused.
+    pub fn entries(&self) -> Result<Row<Write>, NoMemory>
+        ensures { IfOk result (λ writes. IsListing (values_of self.now) writes) }
+    {
+        let mut writes = Row::new(self.alloc);
+        for (key, value) in &self.entries {
+            writes.push(Write {
+                key: *key,
+                value: *value,
+            })?;
+        }
+        Ok(writes)
     }
 }

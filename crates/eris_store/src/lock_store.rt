@@ -7,13 +7,14 @@ ghost use Rattle.eris_locks.specs.LockTable.{run_dones, run_state, step};
 ghost use Rattle.eris_locks.specs.Shards.{cut, on_shard};
 ghost use Rattle.eris_locks.specs.States.{empty};
 ghost use Rattle.eris_locks.specs.WellFormed.{WellFormed};
+ghost use Rattle.eris_plain_store.specs.Listings.{IsListing};
 
 use crate::run::{run_named, step_cut};
 use crate::table::Table;
 use eris_base::{NoMemory, Phase, Row, ShardId, TxnId};
 use eris_locks::Done;
 use eris_plain_store::Locks;
-use eris_txn::{Answer, Key, Packet};
+use eris_txn::{Answer, Key, Packet, Write};
 use std::alloc::Global;
 use std::marker::Model;
 
@@ -141,6 +142,19 @@ impl LockStore {
         ensures { result ≡ (state_of self.now).values key.now }
     {
         self.table.value_of(key)
+    }
+
+    /// The keys that have a value, with it: each key once, in the order of keys. It needs a store that isn't
+    /// spent, and doesn't spend it.
+    ///
+    /// # Errors
+    ///
+    /// [`NoMemory`] where an allocation was refused.
+    pub fn entries(&self) -> Result<Row<Write>, NoMemory>
+        requires { self.now.spent ≡ false }
+        ensures { IfOk result (λ writes. IsListing (state_of self.now).values writes) }
+    {
+        self.table.entries()
     }
 
     /// Whether a call was refused memory that changes the store. Its other calls then may not be made any

@@ -4,6 +4,7 @@ ghost use Rattle.eris_locks.specs.declared.shard_packet.ShardPacket.{ShardPacket
 ghost use Rattle.eris_locks.specs.LockTable.{all_also, answer_of, arrive, arrive_new, conclude, conclude_first, done, end_holding, end_waiting, execute, holding_after, release, step, values_after};
 ghost use Rattle.eris_locks.specs.States.{empty, is_decided, is_prelim};
 ghost use Rattle.eris_plain_store.specs.Leaves.{conclude_holding, conclude_waiting, refuse};
+ghost use Rattle.eris_plain_store.specs.Listings.{IsListing};
 
 use crate::ledger::{Answers, ById};
 use eris_base::{Dup, NoMemory, Phase, Place, Row, TxnId};
@@ -69,6 +70,12 @@ impl Table {
         ensures { result ≡ (map_state self.now).values key.now }
     {
         self.values.value_of(key)
+    }
+
+    pub fn entries(&self) -> Result<Row<Write>, NoMemory>
+        ensures { IfOk result (λ writes. IsListing (map_state self.now).values writes) }
+    {
+        self.values.entries()
     }
 
     pub fn recorded(&self, id: TxnId, phase: Phase) -> Result<Option<Answer>, NoMemory>

@@ -4,7 +4,7 @@
 //! place of the packet whose step gave it, the phase, `late` where its packet had waited, the asker, and what it
 //! says. The bodies:
 //!
-//! - `get KEY`, `put KEY VALUE`, `add KEY VALUE`: an independent transaction of one operation.
+//! - `get KEY`, `del KEY`, `put KEY VALUE`, `add KEY VALUE`: an independent transaction of one operation.
 //! - `lock KEY KEY ..` and `share KEY KEY ..`: the first half of a general transaction, which locks these keys
 //!   alone, or beside other readers.
 //! - `commit KEY KEY .. ; set KEY VALUE ; ..`: the second half that frees these keys and makes these writes.
@@ -15,6 +15,7 @@
 //! - `new` goes on with an empty store, and forgets the packets.
 //! - `together` hands all packets since `new` to an empty store in one call, and prints all its answers.
 //! - `value KEY` prints the key's value in the store.
+//! - `entries` prints the keys that have a value in the store, with it.
 //! - `kept NUMBER PHASE` prints the answer that the store keeps for the transaction in this phase.
 //! - `copy` makes a copy of the store, and `other` goes on with the copy, or back with the store.
 //! - `spent` prints whether the store is spent.

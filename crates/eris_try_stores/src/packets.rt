@@ -65,6 +65,7 @@ fn body(alloc: Global, text: &str) -> anyhow::Result<Body> {
 fn op(word: &str, text: &str) -> anyhow::Result<Op> {
     match word {
         "get" => Ok(Op::Get(key(text)?)),
+        "del" => Ok(Op::Del(key(text)?)),
         "put" => Ok(put(key_and_value(text)?)),
         "add" => Ok(add(key_and_value(text)?)),
         _ => bail!("no such body: {word}"),

@@ -43,6 +43,7 @@ impl Table {
             "copy" => self.copy()?,
             "other" => mem::swap(&mut self.store, &mut self.other),
             "together" => return together(self.alloc, self.packets.as_slice()),
+            "entries" => return entries(self.alloc, &self.store),
             "spent" => return Ok(format!(in self.alloc; "{}", self.store.is_spent())?),
             _ => (),
         }
@@ -106,6 +107,20 @@ fn kept(alloc: Global, store: &LockStore, text: &str) -> anyhow::Result<String> 
         Some(said) => Ok(format!(in alloc; "kept:{}", answer(alloc, &said)?)?),
         None => Ok(format!(in alloc; "nothing kept")?),
     }
+}
+
+/// The keys that have a value, with it.
+fn entries(alloc: Global, store: &LockStore) -> anyhow::Result<String> {
+    if store.is_spent() {
+        bail!("the store is spent");
+    }
+    let mut told = format!(in alloc; "entries:")?;
+    for write in store.entries()?.as_slice() {
+        let name = str::from_utf8(write.key.name.bytes()).context("no text")?;
+        let one = format!(in alloc; " {}/{name} {}", write.key.shard.0, write.value)?;
+        told.push_str(one.as_str())?;
+    }
+    Ok(told)
 }
 
 fn phase(name: &str) -> anyhow::Result<Phase> {
