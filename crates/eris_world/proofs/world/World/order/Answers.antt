@@ -6,8 +6,8 @@ use Rattle.eris_world.specs.WorldValues.{WorldValue}
 use Rattle.eris_world.proofs.OrderLaws.{is_order}
 use Rattle.eris_world.proofs.world.World.order.Goals as goal
 
-pub all_survivors-requires : goal.all_survivors-requires
-all_survivors-requires c =
+pub all_survivors-requires-clause-unspent : goal.all_survivors-requires-clause-unspent
+all_survivors-requires-clause-unspent c =
     let unspent : c.self.inside.spent ≡ false = ap (λ (v : WorldValue). v.spent) c.self.view_is ∙ c.requires in
     (c.self.invariant unspent).of_sequencers.unspent
 
