@@ -16,6 +16,10 @@ usage: measure.py [PROGRAM]     the program is crates/eris/out/eris where none i
 - `check`: a serial report of so many submissions, answers and order lines is judged. Twice as many should take
   about twice the time; the memory is compared with the bytes of the report.
 - `migrate`: a script of `retry` lines as long as a script may be, and one of half its length.
+- `noise`: lines of 256 bytes that are no message, at each kind of node, against as many `retry` lines: bytes that
+  are no message from the first on, and a message without its last bytes. A line should take at most twice the time
+  of a `retry`. The memory of 16,000 lines of 120 bytes is compared with that of as many comments of their length:
+  noise keeps nothing.
 
 Nothing here is a test: the figures are the machine's, and only their ratios say something.
 """
@@ -32,7 +36,13 @@ MOST_SENT = 262144
 BAD_SCRIPT = 3
 
 # the bytes of the frame of an Ask that reads one key with a name of one byte
-ASK_FRAME = 26
+ASK_FRAME = 18
+
+# how often a short run is measured; the shortest time counts
+TURNS = 5
+
+# the digits of the first 256 of the 258 bytes of a message with a list of 48 ascending places
+CUT_SHORT = ("0210" "00000007" "00000004" "00000003" "00000030" + "".join("00%08x" % n for n in range(1, 49)))[:512]
 
 
 def high_water(pid):
@@ -147,6 +157,31 @@ def migrated(program):
               f"  {most * 1024 / len(script):5.1f} bytes of memory for each byte of the script")
 
 
+def shortest(program, script):
+    """The shortest time that the script takes, in some turns."""
+    return min(run(program, script)[0] for _ in range(TURNS))
+
+
+def noise(program):
+    head = b"eris 1 1 0 1\nsubmit 0 get 0/a\n"
+    count = 7900
+    empty = shortest(program, head)
+    retry = shortest(program, head + b"retry 0 1\n" * count) - empty
+    kinds = (("no message", "ff" * 256), ("cut short", CUT_SHORT))
+    for node in (b"rep 0 0", b"coord", b"cli 0", b"seq"):
+        for kind, digits in kinds:
+            line = b"noise %s %s\n" % (node, digits.encode())
+            seconds = shortest(program, head + line * count) - empty
+            print(f"noise      {count:7} lines to {node.decode():7} {kind:10} {seconds / count * 1e6:8.2f} us a line,"
+                  f" {seconds / retry:5.2f} of a retry")
+    count = 16000
+    for kind, digits in kinds:
+        line = b"noise rep 0 0 %s\n" % digits[:240].encode()
+        _, most = run(program, head + line * count)
+        _, silent = run(program, head + (b"#" + line[1:]) * count)
+        print(f"noise      {count:7} lines of 120 bytes, {kind}: {most} KiB of memory, {silent} KiB for as many comments")
+
+
 def main():
     program = os.path.abspath(sys.argv[1]) if len(sys.argv) > 1 else PROGRAM
     retries(program)
@@ -155,6 +190,7 @@ def main():
     reported(program)
     judged(program)
     migrated(program)
+    noise(program)
 
 
 main()
