@@ -5,6 +5,8 @@ use Rattle.eris_base.specs.declared.ids.Node.{Node}
 use Rattle.eris_base.specs.declared.ids.ShardId.{ShardId}
 use Rattle.eris_base.specs.ConfigLimits.{ConfigValue}
 use Rattle.eris_base.specs.Each.{Each}
+use Rattle.eris_kept_store.specs.KeptStores.{KeptValue, IfKept}
+use Rattle.eris_txn.specs.declared.packet.Packet.{Packet}
 use Rattle.eris_log.specs.Entries.{length_of}
 use Rattle.eris_log.specs.PartValues.{PartValue}
 use Rattle.eris_msg.specs.declared.outgoing.Outgoing.{Outgoing}
@@ -34,12 +36,14 @@ pub record IsOfOwn (epoch : Epoch) (shard : ShardId) (part : PartValue) : Type 0
   pub in_epoch : part.epoch ≡ epoch
   pub on_shard : part.shard ≡ shard
 
--- The own part and the noted ones are of the own epoch and shard, and the tallies count as the config says.
-pub record IsMember (config : ConfigValue) (epoch : Epoch) (shard : ShardId) (part : PartValue) (tally : ViewTallyValue) (acks : AckTallyValue) : Type 0 where
+-- The own part and the noted ones are of the own epoch and shard, the tallies count as the config says, and the
+-- store that is kept is right.
+pub record IsMember (config : ConfigValue) (epoch : Epoch) (shard : ShardId) (prior : List Packet) (part : PartValue) (tally : ViewTallyValue) (acks : AckTallyValue) (kept : Option KeptValue) : Type 0 where
   pub own : IsOfOwn epoch shard part
   pub noted : Each (λ one. IsOfOwn epoch shard one.1) tally.noted
   pub tally_faults : tally.f ≡ config.f
   pub ack_faults : acks.f ≡ config.f
+  pub right : IfKept shard prior part kept
 
 -- the replica of this number of the own shard, unless it is the own one
 abbrev pub other_node : Member → ℕ → List Node

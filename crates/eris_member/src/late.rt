@@ -1,12 +1,12 @@
 //! Answers to packets that had waited.
 ghost use Rattle.std.specs.Prelude.{◌≡◌, IfOk, filter, map};
-ghost use Rattle.eris_rules.specs.ReplicaAnswers.{is_late_above, late_answers};
+ghost use Rattle.eris_rules.specs.ReplicaAnswers.{is_late_above, late_answers, store_answers};
 ghost use Rattle.eris_member.specs.LateSends.{late_out};
 
-use crate::logs::store_answers;
 use eris_base::{Epoch, NoMemory, Node, ReplicaId, Row, ShardId};
 use eris_locks::Done;
 use eris_msg::{Message, Outgoing};
+use eris_store::LockStore;
 use eris_txn::Packet;
 use std::alloc::Global;
 
@@ -25,6 +25,14 @@ pub(crate) fn late_answers(
     let mut dones = store_answers(alloc, shard, log)?.into_vec();
     keep_late(&mut dones, epoch, number);
     Ok(Row::from_vec(dones))
+}
+
+/// All that the shard's store answers over the log, in order.
+#[tactic(auto, unfolding(eris_rules::specs::ReplicaAnswers::store_answers))]
+fn store_answers(alloc: Global, shard: ShardId, log: &[Packet]) -> Result<Row<Done>, NoMemory>
+    ensures { IfOk result (λ dones. dones ≡ store_answers shard log.now) }
+{
+    LockStore::new(alloc, shard).step_all(log)
 }
 
 fn keep_late(dones: &mut Vec<Done>, epoch: Epoch, number: u32)

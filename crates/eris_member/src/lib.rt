@@ -8,7 +8,6 @@
 
 mod input;
 mod late;
-mod logs;
 mod member;
 mod packets;
 mod probing;

@@ -12,6 +12,7 @@ ghost use Rattle.eris_member.specs.MemberValues.{IsOfOwn};
 use eris_base::{
     Config, Dup, Epoch, NoMemory, Node, Place, ReplicaId, Row, ShardId, Stamp, View, learner,
 };
+use eris_kept_store::{KeptStore, kept_beside};
 use eris_log::{Merge, Part};
 use eris_rules::ReplicaStatus;
 use eris_txn::Packet;
@@ -42,6 +43,9 @@ pub struct EpochMember {
     pub(crate) tally: ViewTally,
     /// The lengths that it noted as the learner of its view.
     pub(crate) acks: AckTally,
+    /// The shard's store as far as it has spoken for its log, so that it speaks for a new number by one step.
+    /// Contracts don't see it, and None is always right.
+    pub(crate) kept: Option<KeptStore>,
 }
 
 impl Model for EpochMember {
@@ -64,7 +68,7 @@ impl Model for EpochMember {
       };
     } };
 
-    ghost invariant = { λ m. IsMember m.config m.epoch m.shard m.part m.tally m.acks };
+    ghost invariant = { λ m. IsMember m.config m.epoch m.shard m.prior m.part m.tally m.acks m.kept };
 }
 
 impl EpochMember {
@@ -99,6 +103,7 @@ impl EpochMember {
             asked: None,
             tally: ViewTally::new(alloc, View(0), config.f()),
             acks: AckTally::new(config.f()),
+            kept: None,
         }
     }
 
@@ -220,6 +225,7 @@ impl EpochMember {
         self.asked = None;
         self.tally = ViewTally::new(self.alloc, self.tally.view(), self.config.f());
         self.acks = AckTally::new(self.config.f());
+        self.kept = None;
     }
 
     /// Settles up to the number.
@@ -254,6 +260,7 @@ impl EpochMember {
         let mut part = self.part.copy(self.alloc)?;
         self.tally.union(&mut part)?;
         self.part = part;
+        self.kept = None;
         Ok(())
     }
 
@@ -263,6 +270,7 @@ impl EpochMember {
         requires { IsOfOwn self.old.epoch self.old.me.shard part.now }
         ensures { OnOk result (self.new ≡ record self.old { state = record self.old.state { part = merge self.old.state.part part.now } }) }
     {
+        self.kept = None;
         self.part.merge(part)
     }
 
@@ -282,7 +290,10 @@ impl EpochMember {
         requires names { IsSome (number_in packet.stamp.places self.old.me.shard) }
         ensures { OnOk result (self.new ≡ record self.old { state = record self.old.state { part = hold self.old.state.part packet } }) }
     {
-        self.part.hold(packet)
+        let kept = kept_beside(self.kept.take(), self.shard, &packet);
+        self.part.hold(packet)?;
+        self.kept = kept;
+        Ok(())
     }
 
     /// Drops a place of the epoch for a time.
@@ -291,6 +302,7 @@ impl EpochMember {
         requires { place.epoch ≡ self.old.epoch }
         ensures { OnOk result (self.new ≡ record self.old { state = record self.old.state { part = mark_temp self.old.state.part place } }) }
     {
+        self.kept = None;
         self.part.mark_temp(place)
     }
 
@@ -300,6 +312,7 @@ impl EpochMember {
         requires { stamp.now.epoch ≡ self.old.epoch }
         ensures { OnOk result (self.new ≡ record self.old { state = record self.old.state { part = mark_found self.old.state.part stamp.now } }) }
     {
+        self.kept = None;
         self.part.mark_found(stamp)
     }
 
@@ -309,6 +322,7 @@ impl EpochMember {
         requires { place.epoch ≡ self.old.epoch }
         ensures { OnOk result (self.new ≡ record self.old { state = record self.old.state { part = mark_dropped self.old.state.part place } }) }
     {
+        self.kept = None;
         self.part.mark_dropped(place)
     }
 }

@@ -5,12 +5,13 @@ ghost use Rattle.eris_drop.specs.Requests.{answer_request};
 ghost use Rattle.eris_log.specs.Held.{packet_at};
 ghost use Rattle.eris_log.specs.Parts.{hold};
 ghost use Rattle.eris_rules.specs.EpochReplicas.{has_spoken_for, speaks_again, txn_at, txn_row, gives_packet, drops_for_a_time, answers_request, request_row, found_row, dropped_row};
+ghost use Rattle.eris_rules.specs.Speaking.{speaks_for};
 ghost use Rattle.eris_member.specs.MemberValues.{after};
 
-use crate::logs::is_open;
 use crate::member::EpochMember;
 use eris_base::{Dup, NoMemory, Node, Place, Row};
 use eris_drop::{RequestAnswer, answer_request};
+use eris_kept_store::is_open;
 use eris_msg::{Message, Outgoing};
 use eris_rules::tell;
 use eris_txn::Packet;
@@ -43,13 +44,23 @@ impl EpochMember {
 
     /// A packet that is held comes again: what was said of it is said again.
     #[tactic(auto, unfolding(eris_rules::specs::EpochReplicas::speaks_again))]
-    fn speak_again(&self, number: u32) -> Result<Row<Outgoing>, NoMemory>
-        ensures { IfOk result (λ sends. (self.now, sends) ≡ after self.now (speaks_again self.now.me self.now.state number)) }
+    fn speak_again(&mut self, number: u32) -> Result<Row<Outgoing>, NoMemory>
+        ensures { IfOk result (λ sends. (self.new, sends) ≡ after self.old (speaks_again self.old.me self.old.state number)) }
+    {
+        if self.has_spoken_for(number) {
+            return self.speak_once(number);
+        }
+        Ok(Row::new(self.alloc))
+    }
+
+    /// What is said of the packet that is held at the number.
+    fn speak_once(&mut self, number: u32) -> Result<Row<Outgoing>, NoMemory>
+        ensures { IfOk result (λ sends. (self.new, sends) ≡ after self.old (record { state = self.old.state; sends = speaks_for self.old.me self.old.state number })) }
     {
         let mut sends = Row::new(self.alloc);
-        if self.has_spoken_for(number) {
-            self.speak_for(&mut sends, number)?;
-        }
+        let mut kept = self.kept.take();
+        self.speak_for(&mut kept, &mut sends, number)?;
+        self.kept = kept;
         Ok(sends)
     }
 

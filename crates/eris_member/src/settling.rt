@@ -8,6 +8,7 @@ ghost use Rattle.eris_member.specs.MemberValues.{after};
 use crate::late::{late_answers, late_sends};
 use crate::member::EpochMember;
 use eris_base::{NoMemory, Place, ReplicaId, Row, View};
+use eris_kept_store::log_upto;
 use eris_log::places::pairs_of;
 use eris_msg::{Message, Outgoing};
 use eris_rules::tell;
@@ -100,7 +101,7 @@ impl EpochMember {
     fn tell_late(&self, number: u32) -> Result<Row<Outgoing>, NoMemory>
         ensures { IfOk result (λ sends. sends ≡ outer_sends self.now.epoch (tells_late self.now.me self.now.state number)) }
     {
-        let log = self.log_upto(number)?;
+        let log = log_upto(self.alloc, &self.prior, &self.part, number)?;
         let epoch = self.part.epoch();
         let dones = late_answers(self.alloc, self.shard, epoch, log.as_slice(), self.settled)?;
         late_sends(self.alloc, self.shard, self.replica, dones)

@@ -1,7 +1,9 @@
 //! What a replica tells clients, and what it asks for where a packet is missing: what follows each input.
-ghost use Rattle.std.specs.Prelude.{◌≡◌, ◌<◌, ◌≤◌, ◌+◌, ◌-◌, ◌^◌, ◌++◌, ◌∷◌, [], OnOk, IsTrue};
+ghost use Rattle.std.specs.Prelude.{◌≡◌, ◌<◌, ◌≤◌, ◌+◌, ◌-◌, ◌^◌, ◌++◌, ◌∷◌, [], Some, OnOk, IsTrue};
 ghost use Rattle.eris_base.specs.declared.ids.Node.TheVariants.{Coordinator};
+ghost use Rattle.eris_kept_store.specs.KeptStores.{IfKept};
 ghost use Rattle.eris_log.specs.Entries.{length_of, own_place};
+ghost use Rattle.eris_log.specs.Held.{packet_at};
 ghost use Rattle.eris_rules.specs.EpochMessages.{send, Notifies, Find};
 ghost use Rattle.eris_rules.specs.Outer.{outer_send, outer_sends};
 ghost use Rattle.eris_rules.specs.ReplicaAnswers.{log_upto, answer_after};
@@ -9,9 +11,9 @@ ghost use Rattle.eris_rules.specs.ReplicaStates.{quiet};
 ghost use Rattle.eris_rules.specs.Speaking.{vouch_for, reply_for, replies_with, speaks_of, speaks_for, speaks_at, speaks_after, speaks_on, holds_from, asks_gap, asks_once, tail};
 ghost use Rattle.eris_member.specs.MemberValues.{behind, gap_of};
 
-use crate::logs::{answer_after, is_open};
 use crate::member::EpochMember;
 use eris_base::{Dup, NoMemory, Node, Place, Row};
+use eris_kept_store::{KeptStore, answer_at, is_open};
 use eris_locks::phase_of;
 use eris_log::Part;
 use eris_msg::{Message, Outgoing};
@@ -37,43 +39,66 @@ impl EpochMember {
         ensures { OnOk result ((self.new, sends.new) ≡ behind sends.old self.old (speaks_on self.old.me (quiet self.old.state))) }
     {
         let length = self.part.length();
-        self.speak_after(sends, length.saturating_sub(self.spoken))?;
+        let mut kept = self.kept.take();
+        self.speak_after(&mut kept, sends, length.saturating_sub(self.spoken))?;
+        self.kept = kept;
         self.spoken = self.spoken.max(length);
         Ok(())
     }
 
     /// Speaks for so many numbers after the one that it has spoken for.
     #[tactic(auto, using(crate::proofs::Following::sent), unfolding(eris_rules::specs::Speaking::speaks_after))]
-    fn speak_after(&self, sends: &mut Row<Outgoing>, count: u32) -> Result<(), NoMemory>
-        requires { self.now.state.spoken + count < 2 ^ 32 }
-        ensures { OnOk result (sends.new ≡ sends.old ++ outer_sends self.now.epoch
+    fn speak_after(
+        &self,
+        kept: &mut Option<KeptStore>,
+        sends: &mut Row<Outgoing>,
+        count: u32,
+    ) -> Result<(), NoMemory>
+        requires fits { self.now.state.spoken + count < 2 ^ 32 }
+        requires kept { IfKept self.now.me.shard self.now.me.prior self.now.state.part kept.old }
+        ensures sent { OnOk result (sends.new ≡ sends.old ++ outer_sends self.now.epoch
             (speaks_after self.now.me self.now.state self.now.state.spoken count)) }
+        ensures kept { IfKept self.now.me.shard self.now.me.prior self.now.state.part kept.new }
     {
         for more in 0..count {
-            self.speak_at(sends, self.spoken + more + 1)?;
+            self.speak_at(kept, sends, self.spoken + more + 1)?;
         }
         Ok(())
     }
 
     #[tactic(auto, unfolding(eris_rules::specs::Speaking::speaks_at))]
-    fn speak_at(&self, sends: &mut Row<Outgoing>, number: u32) -> Result<(), NoMemory>
-        ensures { OnOk result (sends.new ≡ sends.old ++ outer_sends self.now.epoch
+    fn speak_at(
+        &self,
+        kept: &mut Option<KeptStore>,
+        sends: &mut Row<Outgoing>,
+        number: u32,
+    ) -> Result<(), NoMemory>
+        requires kept { IfKept self.now.me.shard self.now.me.prior self.now.state.part kept.old }
+        ensures sent { OnOk result (sends.new ≡ sends.old ++ outer_sends self.now.epoch
             (speaks_at self.now.me self.now.state number)) }
+        ensures kept { IfKept self.now.me.shard self.now.me.prior self.now.state.part kept.new }
     {
         if is_open(&self.part, number) {
-            self.speak_for(sends, number)?;
+            self.speak_for(kept, sends, number)?;
         }
         Ok(())
     }
 
     /// Tells the asker of the packet that is held at the number.
     #[tactic(auto, unfolding(eris_rules::specs::Speaking::speaks_for))]
-    pub(crate) fn speak_for(&self, sends: &mut Row<Outgoing>, number: u32) -> Result<(), NoMemory>
-        ensures { OnOk result (sends.new ≡ sends.old ++ outer_sends self.now.epoch
+    pub(crate) fn speak_for(
+        &self,
+        kept: &mut Option<KeptStore>,
+        sends: &mut Row<Outgoing>,
+        number: u32,
+    ) -> Result<(), NoMemory>
+        requires kept { IfKept self.now.me.shard self.now.me.prior self.now.state.part kept.old }
+        ensures sent { OnOk result (sends.new ≡ sends.old ++ outer_sends self.now.epoch
             (speaks_for self.now.me self.now.state number)) }
+        ensures kept { IfKept self.now.me.shard self.now.me.prior self.now.state.part kept.new }
     {
         match self.part.held(number) {
-            Some(packet) => self.speak_of(sends, number, packet),
+            Some(packet) => self.speak_of(kept, sends, number, packet),
             None => Ok(()),
         }
     }
@@ -81,15 +106,19 @@ impl EpochMember {
     #[tactic(auto, unfolding(eris_rules::specs::Speaking::speaks_of))]
     fn speak_of(
         &self,
+        kept: &mut Option<KeptStore>,
         sends: &mut Row<Outgoing>,
         number: u32,
         packet: &Packet,
     ) -> Result<(), NoMemory>
-        ensures { OnOk result (sends.new ≡ sends.old ++ outer_sends self.now.epoch
+        requires kept { IfKept self.now.me.shard self.now.me.prior self.now.state.part kept.old }
+        requires held { packet_at self.now.state.part.held number ≡ Some packet.now }
+        ensures sent { OnOk result (sends.new ≡ sends.old ++ outer_sends self.now.epoch
             (speaks_of self.now.me self.now.state number packet.now)) }
+        ensures kept { IfKept self.now.me.shard self.now.me.prior self.now.state.part kept.new }
     {
         if self.is_learner(self.tally.view()) {
-            self.reply_for(sends, number, packet)
+            self.reply_for(kept, sends, number, packet)
         } else {
             self.vouch_for(sends, packet)
         }
@@ -118,16 +147,27 @@ impl EpochMember {
     /// packet waits for a lock.
     fn reply_for(
         &self,
+        kept: &mut Option<KeptStore>,
         sends: &mut Row<Outgoing>,
         number: u32,
         packet: &Packet,
     ) -> Result<(), NoMemory>
-        ensures { OnOk result (sends.new ≡ sends.old ++ outer_sends self.now.epoch
+        requires kept { IfKept self.now.me.shard self.now.me.prior self.now.state.part kept.old }
+        requires held { packet_at self.now.state.part.held number ≡ Some packet.now }
+        ensures sent { OnOk result (sends.new ≡ sends.old ++ outer_sends self.now.epoch
             (replies_with self.now.me self.now.state packet.now
             (answer_after self.now.me.shard (log_upto self.now.me.prior self.now.state.part (number - 1)) packet.now))) }
+        ensures kept { IfKept self.now.me.shard self.now.me.prior self.now.state.part kept.new }
     {
-        let log = self.log_upto(number.saturating_sub(1))?;
-        match answer_after(self.alloc, self.shard, log.as_slice(), packet)? {
+        match answer_at(
+            self.alloc,
+            self.shard,
+            &self.prior,
+            &self.part,
+            number,
+            packet,
+            kept,
+        )? {
             Some(answer) => self.reply_with(sends, packet, answer),
             None => Ok(()),
         }

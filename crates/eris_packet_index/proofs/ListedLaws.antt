@@ -40,6 +40,7 @@ noted_on packets at item old new place few is named updates before packet none =
   where
     here : at_first new place ≡ Some at
     here = updates place ∙ ap (λ t. cond (is_eq t) (Some at) (at_first old place)) (tied_itself place_cmp-total place)
+
     by_test : (t : Bool) → same_packet packet item ≡ t → t ≡ false
     by_test false same = refl
     by_test true same =
